@@ -1,0 +1,10 @@
+-- At most 190 percent of 500,000,000 fits 32 bits.
+use Prim.Native.Nat.{_*_}
+use native.Mathlib.Omega.{arith}
+use Rattle.std.proofs.shelf.Bits.{mul-le}
+use Rattle.rules.proofs.levels.percent_of.Needs as need
+
+pub cast-result : need.cast-result
+cast-result c =
+    let most = mul-le (c .args .risk) (c .args .rate) 500_000_000 190 (omega arith) (omega arith) in
+    omega (arith, most)

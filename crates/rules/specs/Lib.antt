@@ -1,0 +1,5 @@
+pub mod PerLot
+pub mod Laws
+pub mod Rules
+pub mod Freed
+pub mod Worked
