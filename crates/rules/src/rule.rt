@@ -1,6 +1,6 @@
 //! Margin rules.
 ghost use mathlib.Core.Path.{_≡_};
-ghost use Prim.Native.Nat.{_+_, _^_, _<_, _≤_};
+ghost use Prim.Native.Nat.{_+_, _*_, _^_, _<_};
 ghost use Rattle.rules.specs.Laws.{Rule, Flat-is-free, In-order, Long-falls, Short-falls, Pair-falls};
 ghost use Rattle.rules.specs.Rules.{times, plus, gross, larger-side, pairs, chosen};
 use crate::levels::Levels;
@@ -36,17 +36,25 @@ pub struct LargerSide;
 #[derive(Clone, Copy, PartialEq, Eq, Debug)]
 pub struct Pairs;
 
-/// The levels of so many lots, each small enough that two of them can be added.
+/// One level of so many lots, small enough that two of them can be added.
+fn lots_at(lots: u32, level: u32) -> u64
+    requires { ⌜ lots < 2 ^ 17 ⌝ }
+    ensures value { λ r. ⌜ r ≡ lots * level ⌝ }
+    ensures small { λ r. ⌜ r < 2 ^ 49 ⌝ }
+{
+    lots as u64 * level as u64
+}
+
+/// The levels of so many lots.
 fn times(lots: u32, level: Levels) -> (u64, u64, u64)
     requires { ⌜ lots < 2 ^ 17 ⌝ }
     ensures value { λ r. ⌜ r ≡ times lots level ⌝ }
     ensures small { λ r. ⌜ (r .0 < 2 ^ 49) × (r .1 < 2 ^ 49) × (r .2 < 2 ^ 49) ⌝ }
 {
-    let lots = lots as u64;
     (
-        lots * level.initial as u64,
-        lots * level.maintenance as u64,
-        lots * level.force as u64,
+        lots_at(lots, level.initial),
+        lots_at(lots, level.maintenance),
+        lots_at(lots, level.force),
     )
 }
 
