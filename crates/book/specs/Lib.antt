@@ -15,4 +15,8 @@ pub mod ClosedCalls
 pub mod TradingCalls
 pub mod Closing
 pub mod Step
+pub mod Events
+pub mod History
+pub mod CallHistory
+pub mod Promises
 pub mod Worked

@@ -9,17 +9,9 @@ use Rattle.rules.specs.declared.levels.RiskMargins.{RiskMargins}
 use Rattle.rules.specs.declared.rule.RuleChoice.{RuleChoice}
 use Rattle.rules.specs.declared.rule.RuleChoice.the-variants.{Gross, LargerSide, Pairs}
 use Rattle.rules.specs.PerLot.{per-lot, Fits}
-use Rattle.rules.specs.Laws.{Three, Rule, Ordered, Falls, Flat-is-free, In-order, Long-falls, Short-falls, Pair-falls}
+use Rattle.rules.specs.Laws.{Three, Ordered, Falls, Keeps}
 use Rattle.rules.specs.Rules.{times, plus, difference, gross, larger-side, pairs, chosen}
 use Rattle.rules.proofs.Lots.{Lot, Lots, lots}
-
--- the laws of the trait, together
-pub record Keeps (f : Rule) : Type 0 where
-  pub flat : Flat-is-free f
-  pub ordered : In-order f
-  pub longer : Long-falls f
-  pub shorter : Short-falls f
-  pub paired : Pair-falls f
 
 times-ordered : (n : ℕ) {v : Levels} → Lot v → Ordered (times n v)
 times-ordered n h = (mul-le-mul-left n (h .force≤maintenance), mul-le-mul-left n (h .maintenance≤initial))

@@ -54,3 +54,11 @@ abbrev pub Pair-falls : Rule → Type 0
 Pair-falls f =
     (m : RiskMargins) (l s : ℕ) → Fits m → l ≤ most → s ≤ most → 0 < l → 0 < s
     → Falls (charged f m l s) (charged f m (l - 1) (s - 1))
+
+-- A margin rule that keeps the laws.
+pub record Keeps (f : Rule) : Type 0 where
+  pub flat : Flat-is-free f
+  pub ordered : In-order f
+  pub longer : Long-falls f
+  pub shorter : Short-falls f
+  pub paired : Pair-falls f
