@@ -1,32 +1,33 @@
--- The worked cases, by computing the definitions.
-use mathlib.Core.Path.{refl}
-use Rattle.rules.specs.declared.rule.RuleChoice.{RuleChoice}
-use Rattle.rules.specs.declared.rule.RuleChoice.the-variants.{Gross, LargerSide, Pairs}
+-- All worked cases, by computing the definitions.
 use Rattle.rules.specs.Worked.{Worked-levels}
-use Rattle.book.specs.Worked.{Worked-closing, Worked-cases}
-use Rattle.book.specs.House.{new-account}
-use Rattle.book.specs.Equity.{gain}
-use Rattle.book.specs.Orders.{fill-leg, need, lowers, released, free}
-use Rattle.book.specs.Requirements.{long-side, short-side, product-levels}
+use Rattle.book.specs.Worked.{Worked-cases}
+use Rattle.book.proofs.CasesCalls as calls
+use Rattle.book.proofs.CasesForced as forced
+use Rattle.book.proofs.CasesUnits as units
+use Rattle.book.proofs.CasesRefusals as refusals
+use Rattle.book.proofs.CasesOrders as orders
 
 levels : Worked-levels
-levels = record {
-  outright = refl;
-  spread = refl;
-  one-satang = refl;
-  ten-gross = refl;
-  ten-larger-side = refl;
-  ten-pairs = refl;
-  gross-initial = refl;
-  larger-side-initial = refl;
-  pairs-initial = refl;
-}
-
-closing : (rule : RuleChoice) → Worked-closing rule
-unfolding new-account gain fill-leg need lowers released free long-side short-side product-levels
-closing Gross = record { answers-are = refl; call-issued = refl }
-closing LargerSide = record { answers-are = refl; call-issued = refl }
-closing Pairs = record { answers-are = refl; call-issued = refl }
+levels = search
 
 pub worked : Worked-cases
-worked = record { levels = levels; closing = closing }
+worked = record {
+  levels = levels;
+  closing = calls.closing;
+  next-day = calls.next-day;
+  later-closings = calls.later-closings;
+  due = forced.due;
+  sheet = forced.sheet;
+  pair = forced.pair;
+  choice = units.choice;
+  lines = units.lines;
+  entering = refusals.entering;
+  money = refusals.money;
+  ending-a-day = refusals.ending-a-day;
+  forced-refusals = refusals.forced-refusals;
+  states = refusals.states;
+  check = orders.check;
+  opposite-lot = orders.opposite-lot;
+  orders = orders.orders;
+  needs = orders.needs;
+}

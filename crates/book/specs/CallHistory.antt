@@ -80,8 +80,8 @@ abbrev pub last-issue : Rule → ℕ → History → Option Issue
 last-issue rule a [] = None
 last-issue rule a (e ∷ h) =
     cond (is-closing e && (not (is-open rule a (last-issue rule a h)) && short-of-maintenance rule a (e ∷ h)))
-        (Some (issued-at rule a (e ∷ h)))
-        (longer-since e (last-issue rule a h))
+    (Some (issued-at rule a (e ∷ h)))
+    (longer-since e (last-issue rule a h))
 
 -- Openings since the issue.
 abbrev pub openings : History → ℕ

@@ -41,9 +41,9 @@ unfoldable pub units : Market → ℕ → ℕ → Account → List ℕ → List 
 units m minute zero x takes = []
 units m minute (suc n) x takes =
     cond (due-on m minute x)
-        (then-more (next-unit (holdings (m .series) (x .positions)) takes)
-            (λ u. units m minute n (counted m u x) (used-up u takes)))
-        []
+    (then-more (next-unit (holdings (m .series) (x .positions)) takes)
+    (λ u. units m minute n (counted m u x) (used-up u takes)))
+    []
 
 abbrev pub same-second : Option ℕ → Option ℕ → Bool
 same-second None None = true

@@ -19,4 +19,10 @@ pub mod Events
 pub mod History
 pub mod CallHistory
 pub mod Promises
+pub mod WorkedRuns
+pub mod WorkedCalls
+pub mod WorkedForced
+pub mod WorkedUnits
+pub mod WorkedRefusals
+pub mod WorkedOrders
 pub mod Worked

@@ -45,4 +45,4 @@ abbrev pub credited : ℕ → Option MarginCall → Option MarginCall
 credited n None = None
 credited n (Some c) =
     cond (leb (c .amount) (c .credit + n)) None
-        (Some (record { amount = c .amount; credit = c .credit + n; age = c .age; low = c .low }))
+    (Some (record { amount = c .amount; credit = c .credit + n; age = c .age; low = c .low }))

@@ -16,7 +16,7 @@ fall x y = x .0 - y .0
 abbrev pub freed-of : Rule → RiskMargins → ℕ → ℕ → Option ℕ
 freed-of f m l s =
     cond (ltb s l) (Some (fall (charged f m l s) (charged f m (l - 1) s)))
-        (cond (ltb l s) (Some (fall (charged f m l s) (charged f m l (s - 1)))) None)
+    (cond (ltb l s) (Some (fall (charged f m l s) (charged f m l (s - 1)))) None)
 
 -- A rule is asked at risk margins that a product may have, and for at most 24,000 lots on a side.
 abbrev pub askable : RiskMargins → ℕ → ℕ → Bool

@@ -37,8 +37,8 @@ per-lot-answer risk = cond (within 1 max-risk risk) (Ok (per-lot risk)) (Err Out
 abbrev pub risk-margins : ℕ → ℕ → Result RiskMargins RangeError
 risk-margins outright spread =
     cond (within 1 max-risk outright)
-        (cond (within 1 outright spread) (Ok (record { outright = outright; spread = spread })) (Err Spread))
-        (Err Outright)
+    (cond (within 1 outright spread) (Ok (record { outright = outright; spread = spread })) (Err Spread))
+    (Err Outright)
 
 abbrev pub InRange : ℕ → Type 0
 InRange risk = (1 ≤ risk) × (risk ≤ max-risk)

@@ -73,7 +73,10 @@ impl RiskMargins {
         if spread < 1 || spread > outright {
             return Err(RangeError::Spread);
         }
-        Ok(RiskMargins { outright: outright as u32, spread: spread as u32 })
+        Ok(RiskMargins {
+            outright: outright as u32,
+            spread: spread as u32,
+        })
     }
 
     /// Whether a product may have these risk margins.

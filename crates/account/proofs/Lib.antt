@@ -1,0 +1,5 @@
+pub mod Sizes
+pub mod Sums
+pub mod Sides
+pub mod Levels
+pub mod Fills

@@ -1,0 +1,30 @@
+//! What Figures tells of an account.
+ghost use mathlib.Core.Path.{_≡_};
+ghost use Rattle.std.specs.Of.Vec.{vec-len};
+ghost use Rattle.book.specs.TradingCalls.{figures-of};
+ghost use Rattle.account.specs.Bounds.{Sound};
+ghost use Rattle.account.specs.View.{the-market};
+use crate::market::Market;
+use book::account::Account;
+use book::account::Figures;
+use book::account::Position;
+use rules::rule::MarginRule;
+
+impl<R: MarginRule> Market<R> {
+    /// An account's equity balance, requirements, free and open call.
+    pub fn figures(&self, account: &Account) -> Figures
+        requires { ⌜ Sound (vec-len (now self .series)) (now account) ⌝ }
+        ensures { λ r. ⌜ r ≡ figures-of (the-market meaning (now (self .entry))) (now (account .entry)) ⌝ }
+    {
+        let positions: &[Position] = &account.positions;
+        let (initial, maintenance, force) = self.requirements(positions);
+        Figures {
+            equity: self.equity(account),
+            initial,
+            maintenance,
+            force,
+            free: self.free(account),
+            call: account.call,
+        }
+    }
+}
