@@ -3,3 +3,4 @@ pub mod Sums
 pub mod Sides
 pub mod Levels
 pub mod Fills
+pub mod Settling

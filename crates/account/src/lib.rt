@@ -6,3 +6,4 @@ pub mod fill;
 pub mod market;
 pub mod orders;
 pub mod requirements;
+pub mod settle;
