@@ -27,7 +27,7 @@ call-minute = 955
 abbrev pub reached : MarginCall → ℕ → ℕ → Bool
 reached c from minute = leb 2 (c .age) || (eqb (c .age) 1 && leb from minute)
 
--- The call is due while it is open; on a low call EB ≥ FMR and EB ≥ MMR are due too.
+-- An open call is due from 955 on; on a low call EB ≥ FMR is due from 645 on and EB ≥ MMR from 690 on; at age 2 all are due at every minute.
 unfoldable pub call-due : MarginCall → ℕ → ℤ → Three → Bool
 call-due c minute eb levels =
     reached c call-minute minute

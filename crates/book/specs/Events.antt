@@ -12,9 +12,9 @@ use Rattle.book.specs.Call.{Call}
 -- A granted call puts what it did on record. Refused calls do not, and nor do calls that no promise counts.
 pub data Event : Type 0 where
   -- a product's risk margins, by Product or Rates
-  Charged : ℕ → RiskMargins → Event
+  MarginsSet : ℕ → RiskMargins → Event
   -- a series, its product, multiplier and settlement price
-  Entering : ℕ → ℕ → ℕ → ℕ → Event
+  SeriesEntered : ℕ → ℕ → ℕ → ℕ → Event
   Opened : Event
   Minute : ℕ → Event
   -- series, price
@@ -81,9 +81,9 @@ if-listed NotNow e = Nothing
 
 -- What a call with its answer puts on record.
 abbrev pub event : Call → Answer → Event
-event (C.Product outright spread) r = if-entered r (λ q. Charged q (record { outright = outright; spread = spread }))
-event (C.Rates q outright spread) r = if-done r (Charged q (record { outright = outright; spread = spread }))
-event (C.Series q multiplier price) r = if-entered r (λ i. Entering i q multiplier price)
+event (C.Product outright spread) r = if-entered r (λ q. MarginsSet q (record { outright = outright; spread = spread }))
+event (C.Rates q outright spread) r = if-done r (MarginsSet q (record { outright = outright; spread = spread }))
+event (C.Series q multiplier price) r = if-entered r (λ i. SeriesEntered i q multiplier price)
 event C.Account r = Nothing
 event C.Opening r = if-done r Opened
 event (C.Clock minute) r = if-done r (Minute minute)
@@ -101,39 +101,39 @@ event (C.ForcedList a takes sheet) r = if-listed r (Forced a takes)
 
 -- Each of the following asks whether an event is of one kind, and gives another answer where it is not.
 module _ {ℓ} {X : Type ℓ} where
-  abbrev pub on-charged : Event → (ℕ → RiskMargins → X) → X → X
-  on-charged (Charged q m) yes-then other = yes-then q m
-  on-charged (Entering i q k p) yes-then other = other
-  on-charged Opened yes-then other = other
-  on-charged (Minute t) yes-then other = other
-  on-charged (Printed i p) yes-then other = other
-  on-charged (Deposited a n) yes-then other = other
-  on-charged (Withdrawn a n) yes-then other = other
-  on-charged (Checked n a t) yes-then other = other
-  on-charged (Filled n p r) yes-then other = other
-  on-charged (Settled ps) yes-then other = other
-  on-charged (Figured a f) yes-then other = other
-  on-charged (Forced a ts ls) yes-then other = other
-  on-charged Nothing yes-then other = other
+  abbrev pub on-margins-set : Event → (ℕ → RiskMargins → X) → X → X
+  on-margins-set (MarginsSet q m) yes-then other = yes-then q m
+  on-margins-set (SeriesEntered i q k p) yes-then other = other
+  on-margins-set Opened yes-then other = other
+  on-margins-set (Minute t) yes-then other = other
+  on-margins-set (Printed i p) yes-then other = other
+  on-margins-set (Deposited a n) yes-then other = other
+  on-margins-set (Withdrawn a n) yes-then other = other
+  on-margins-set (Checked n a t) yes-then other = other
+  on-margins-set (Filled n p r) yes-then other = other
+  on-margins-set (Settled ps) yes-then other = other
+  on-margins-set (Figured a f) yes-then other = other
+  on-margins-set (Forced a ts ls) yes-then other = other
+  on-margins-set Nothing yes-then other = other
 
-  abbrev pub on-entering : Event → (ℕ → ℕ → ℕ → ℕ → X) → X → X
-  on-entering (Charged q m) yes-then other = other
-  on-entering (Entering i q k p) yes-then other = yes-then i q k p
-  on-entering Opened yes-then other = other
-  on-entering (Minute t) yes-then other = other
-  on-entering (Printed i p) yes-then other = other
-  on-entering (Deposited a n) yes-then other = other
-  on-entering (Withdrawn a n) yes-then other = other
-  on-entering (Checked n a t) yes-then other = other
-  on-entering (Filled n p r) yes-then other = other
-  on-entering (Settled ps) yes-then other = other
-  on-entering (Figured a f) yes-then other = other
-  on-entering (Forced a ts ls) yes-then other = other
-  on-entering Nothing yes-then other = other
+  abbrev pub on-series-entered : Event → (ℕ → ℕ → ℕ → ℕ → X) → X → X
+  on-series-entered (MarginsSet q m) yes-then other = other
+  on-series-entered (SeriesEntered i q k p) yes-then other = yes-then i q k p
+  on-series-entered Opened yes-then other = other
+  on-series-entered (Minute t) yes-then other = other
+  on-series-entered (Printed i p) yes-then other = other
+  on-series-entered (Deposited a n) yes-then other = other
+  on-series-entered (Withdrawn a n) yes-then other = other
+  on-series-entered (Checked n a t) yes-then other = other
+  on-series-entered (Filled n p r) yes-then other = other
+  on-series-entered (Settled ps) yes-then other = other
+  on-series-entered (Figured a f) yes-then other = other
+  on-series-entered (Forced a ts ls) yes-then other = other
+  on-series-entered Nothing yes-then other = other
 
   abbrev pub on-opened : Event → X → X → X
-  on-opened (Charged q m) yes-then other = other
-  on-opened (Entering i q k p) yes-then other = other
+  on-opened (MarginsSet q m) yes-then other = other
+  on-opened (SeriesEntered i q k p) yes-then other = other
   on-opened Opened yes-then other = yes-then
   on-opened (Minute t) yes-then other = other
   on-opened (Printed i p) yes-then other = other
@@ -147,8 +147,8 @@ module _ {ℓ} {X : Type ℓ} where
   on-opened Nothing yes-then other = other
 
   abbrev pub on-minute : Event → (ℕ → X) → X → X
-  on-minute (Charged q m) yes-then other = other
-  on-minute (Entering i q k p) yes-then other = other
+  on-minute (MarginsSet q m) yes-then other = other
+  on-minute (SeriesEntered i q k p) yes-then other = other
   on-minute Opened yes-then other = other
   on-minute (Minute t) yes-then other = yes-then t
   on-minute (Printed i p) yes-then other = other
@@ -162,8 +162,8 @@ module _ {ℓ} {X : Type ℓ} where
   on-minute Nothing yes-then other = other
 
   abbrev pub on-printed : Event → (ℕ → ℕ → X) → X → X
-  on-printed (Charged q m) yes-then other = other
-  on-printed (Entering i q k p) yes-then other = other
+  on-printed (MarginsSet q m) yes-then other = other
+  on-printed (SeriesEntered i q k p) yes-then other = other
   on-printed Opened yes-then other = other
   on-printed (Minute t) yes-then other = other
   on-printed (Printed i p) yes-then other = yes-then i p
@@ -177,8 +177,8 @@ module _ {ℓ} {X : Type ℓ} where
   on-printed Nothing yes-then other = other
 
   abbrev pub on-deposited : Event → (ℕ → ℕ → X) → X → X
-  on-deposited (Charged q m) yes-then other = other
-  on-deposited (Entering i q k p) yes-then other = other
+  on-deposited (MarginsSet q m) yes-then other = other
+  on-deposited (SeriesEntered i q k p) yes-then other = other
   on-deposited Opened yes-then other = other
   on-deposited (Minute t) yes-then other = other
   on-deposited (Printed i p) yes-then other = other
@@ -192,8 +192,8 @@ module _ {ℓ} {X : Type ℓ} where
   on-deposited Nothing yes-then other = other
 
   abbrev pub on-withdrawn : Event → (ℕ → ℕ → X) → X → X
-  on-withdrawn (Charged q m) yes-then other = other
-  on-withdrawn (Entering i q k p) yes-then other = other
+  on-withdrawn (MarginsSet q m) yes-then other = other
+  on-withdrawn (SeriesEntered i q k p) yes-then other = other
   on-withdrawn Opened yes-then other = other
   on-withdrawn (Minute t) yes-then other = other
   on-withdrawn (Printed i p) yes-then other = other
@@ -207,8 +207,8 @@ module _ {ℓ} {X : Type ℓ} where
   on-withdrawn Nothing yes-then other = other
 
   abbrev pub on-checked : Event → (ℕ → ℕ → Trade → X) → X → X
-  on-checked (Charged q m) yes-then other = other
-  on-checked (Entering i q k p) yes-then other = other
+  on-checked (MarginsSet q m) yes-then other = other
+  on-checked (SeriesEntered i q k p) yes-then other = other
   on-checked Opened yes-then other = other
   on-checked (Minute t) yes-then other = other
   on-checked (Printed i p) yes-then other = other
@@ -222,8 +222,8 @@ module _ {ℓ} {X : Type ℓ} where
   on-checked Nothing yes-then other = other
 
   abbrev pub on-filled : Event → (ℕ → ℕ → Option ℕ → X) → X → X
-  on-filled (Charged q m) yes-then other = other
-  on-filled (Entering i q k p) yes-then other = other
+  on-filled (MarginsSet q m) yes-then other = other
+  on-filled (SeriesEntered i q k p) yes-then other = other
   on-filled Opened yes-then other = other
   on-filled (Minute t) yes-then other = other
   on-filled (Printed i p) yes-then other = other
@@ -237,8 +237,8 @@ module _ {ℓ} {X : Type ℓ} where
   on-filled Nothing yes-then other = other
 
   abbrev pub on-settled : Event → (List ℕ → X) → X → X
-  on-settled (Charged q m) yes-then other = other
-  on-settled (Entering i q k p) yes-then other = other
+  on-settled (MarginsSet q m) yes-then other = other
+  on-settled (SeriesEntered i q k p) yes-then other = other
   on-settled Opened yes-then other = other
   on-settled (Minute t) yes-then other = other
   on-settled (Printed i p) yes-then other = other
@@ -252,8 +252,8 @@ module _ {ℓ} {X : Type ℓ} where
   on-settled Nothing yes-then other = other
 
   abbrev pub on-figured : Event → (ℕ → Figures → X) → X → X
-  on-figured (Charged q m) yes-then other = other
-  on-figured (Entering i q k p) yes-then other = other
+  on-figured (MarginsSet q m) yes-then other = other
+  on-figured (SeriesEntered i q k p) yes-then other = other
   on-figured Opened yes-then other = other
   on-figured (Minute t) yes-then other = other
   on-figured (Printed i p) yes-then other = other
@@ -267,8 +267,8 @@ module _ {ℓ} {X : Type ℓ} where
   on-figured Nothing yes-then other = other
 
   abbrev pub on-forced : Event → (ℕ → List ℕ → List Trade → X) → X → X
-  on-forced (Charged q m) yes-then other = other
-  on-forced (Entering i q k p) yes-then other = other
+  on-forced (MarginsSet q m) yes-then other = other
+  on-forced (SeriesEntered i q k p) yes-then other = other
   on-forced Opened yes-then other = other
   on-forced (Minute t) yes-then other = other
   on-forced (Printed i p) yes-then other = other

@@ -14,7 +14,7 @@ use Rattle.book.specs.declared.account.Position.{Position}
 use Rattle.book.specs.declared.account.Trade.{Trade}
 use Rattle.book.specs.declared.market.Series.{Series}
 use Rattle.book.specs.Call.{Call}
-use Rattle.book.specs.Events.{Event, event, on-charged, on-entering, on-opened, on-minute, on-printed, on-deposited, on-withdrawn, on-checked, on-filled, on-settled}
+use Rattle.book.specs.Events.{Event, event, on-margins-set, on-series-entered, on-opened, on-minute, on-printed, on-deposited, on-withdrawn, on-checked, on-filled, on-settled}
 use Rattle.book.specs.House.{State}
 use Rattle.book.specs.Market.{Market}
 use Rattle.book.specs.Prices.{mark}
@@ -91,31 +91,32 @@ abbrev pub settlement : ℕ → History → ℕ
 settlement i [] = 0
 settlement i (e ∷ h) =
     on-settled e (λ prices. getD prices i (settlement i h))
-    (on-entering e (λ j q k price. cond (eqb i j) price (settlement i h)) (settlement i h))
+    (on-series-entered e (λ j q k price. cond (eqb i j) price (settlement i h)) (settlement i h))
 
 -- The product and the multiplier with which a series was entered.
 abbrev pub product : ℕ → History → ℕ
 product i [] = 0
-product i (e ∷ h) = on-entering e (λ j q k price. cond (eqb i j) q (product i h)) (product i h)
+product i (e ∷ h) = on-series-entered e (λ j q k price. cond (eqb i j) q (product i h)) (product i h)
 
 abbrev pub multiplier : ℕ → History → ℕ
 multiplier i [] = 0
-multiplier i (e ∷ h) = on-entering e (λ j q k price. cond (eqb i j) k (multiplier i h)) (multiplier i h)
+multiplier i (e ∷ h) = on-series-entered e (λ j q k price. cond (eqb i j) k (multiplier i h)) (multiplier i h)
 
 -- The risk margins in force are those of the last granted Product or Rates.
-abbrev pub risk-margins : ℕ → History → RiskMargins
-risk-margins q [] = record { outright = 0; spread = 0 }
-risk-margins q (e ∷ h) = on-charged e (λ p m. cond (eqb q p) m (risk-margins q h)) (risk-margins q h)
+abbrev pub margins-in-force : ℕ → History → RiskMargins
+margins-in-force q [] = record { outright = 0; spread = 0 }
+margins-in-force q (e ∷ h) = on-margins-set e (λ p m. cond (eqb q p) m (margins-in-force q h)) (margins-in-force q h)
 
--- A product or series is the next one where its number is as many as were entered before.
+-- How many products were entered: margins for the next number enter a product, and for a lower one replace them.
 abbrev pub products-entered : History → ℕ
 products-entered [] = 0
 products-entered (e ∷ h) =
-    on-charged e (λ q m. cond (eqb q (products-entered h)) (suc (products-entered h)) (products-entered h)) (products-entered h)
+    on-margins-set e (λ q m. cond (eqb q (products-entered h)) (suc (products-entered h)) (products-entered h)) (products-entered h)
 
+-- How many series were entered.
 abbrev pub series-entered : History → ℕ
 series-entered [] = 0
-series-entered (e ∷ h) = on-entering e (λ i q k price. suc (series-entered h)) (series-entered h)
+series-entered (e ∷ h) = on-series-entered e (λ i q k price. suc (series-entered h)) (series-entered h)
 
 -- The minute of the day.
 abbrev pub minute : History → ℕ
@@ -138,7 +139,7 @@ series h i = record {
 abbrev pub market : Rule → History → Market
 market rule h = record {
   rule = rule;
-  products = table (products-entered h) (λ q. risk-margins q h);
+  products = table (products-entered h) (λ q. margins-in-force q h);
   series = table (series-entered h) (series h);
 }
 

@@ -17,7 +17,7 @@ pub mod Closing
 pub mod Step
 pub mod Events
 pub mod History
-pub mod CallHistory
+pub mod MarginCallHistory
 pub mod Promises
 pub mod WorkedRuns
 pub mod WorkedCalls

@@ -16,7 +16,7 @@ use Rattle.book.specs.declared.account.Trade.{Trade}
 use Rattle.book.specs.Answer.{Answer, granted}
 use Rattle.book.specs.Call as C
 use Rattle.book.specs.Call.{Call}
-use Rattle.book.specs.CallHistory.{fills-for, released-by, open-call, something-due}
+use Rattle.book.specs.MarginCallHistory.{fills-for, released-by, open-call, something-due}
 use Rattle.book.specs.Due.{due}
 use Rattle.book.specs.Events.{Event, on-withdrawn, on-figured, on-forced}
 use Rattle.book.specs.ForcedList.{lines}
@@ -46,7 +46,7 @@ Equity-told e h = on-figured e (λ a f. f .equity ≡ balance a h) Unit
 abbrev pub Equity-identity : Rule → ℕ → List Call → Type 0
 Equity-identity rule house cs = Always Equity-told (history rule house cs)
 
--- Figures tells a call exactly while it is open, and its credit is what was paid since its issue.
+-- Figures tells a call exactly while it is open, and its credit is what was credited since its issue.
 abbrev pub Call-told : Rule → Event → History → Type 0
 Call-told rule e h = on-figured e (λ a f. f .call ≡ open-call rule a h) Unit
 
@@ -59,7 +59,7 @@ Fill-releases rule e h =
 abbrev pub No-withdrawal : Rule → Event → History → Type 0
 No-withdrawal rule e h = on-withdrawn e (λ a n. isSome (open-call rule a h) ≡ false) Unit
 
-pub record Open-calls (rule : Rule) (house : ℕ) (cs : List Call) : Type 0 where
+pub record Open-margin-calls (rule : Rule) (house : ℕ) (cs : List Call) : Type 0 where
   pub told : Always (Call-told rule) (history rule house cs)
   pub releases : Always (Fill-releases rule) (history rule house cs)
   pub keeps-cash : Always (No-withdrawal rule) (history rule house cs)
@@ -94,9 +94,9 @@ abbrev pub units-of : List Trade → List Trade
 units-of [] = []
 units-of (l ∷ ls) = units-in l ++ units-of ls
 
-abbrev pub taken : List Trade → List ℕ → List ℕ
-taken [] takes = takes
-taken (u ∷ us) takes = taken us (used-up u takes)
+abbrev pub takes-left : List Trade → List ℕ → List ℕ
+takes-left [] takes = takes
+takes-left (u ∷ us) takes = takes-left us (used-up u takes)
 
 -- What is due as a list counts its units: each filled at the marks, with released margin credited to the call.
 abbrev pub due-counted : Market → ℕ → ℤ → Option MarginCall → List Position → List Trade → Bool
@@ -127,7 +127,7 @@ module _ (rule : Rule) (house : ℕ) (cs : List Call) (a : ℕ) where
   -- No unit can be chosen from the lots that the market still takes.
   abbrev pub No-unit-left : List ℕ → List Trade → Type 0
   No-unit-left takes ls =
-      next-unit (holdings (market rule (afterwards ls) .series) (positions a (afterwards ls))) (taken (units-of ls) takes) ≡ None
+      next-unit (holdings (market rule (afterwards ls) .series) (positions a (afterwards ls))) (takes-left (units-of ls) takes) ≡ None
 
   -- Then nothing is due or no unit is left.
   abbrev pub Suffices : List ℕ → List Trade → Type 0
@@ -136,6 +136,7 @@ module _ (rule : Rule) (house : ℕ) (cs : List Call) (a : ℕ) where
   -- After any fewer of its units something is still due: as the list counts them, and as lines that are placed and filled.
   pub record Too-few (k : ℕ) (ls : List Trade) : Type 0 where
     pub counted : due-counted (market rule before) (minute before) (balance a before) (open-call rule a before) (positions a before) (take k (units-of ls)) ≡ true
+    pub granted-so-far : Numbers-left (lines (take k (units-of ls))) → Lines-granted (lines (take k (units-of ls)))
     pub placed : Numbers-left (lines (take k (units-of ls))) → something-due rule a (afterwards (lines (take k (units-of ls)))) ≡ true
 
   pub record List-kept (takes : List ℕ) (ls : List Trade) : Type 0 where
@@ -158,7 +159,7 @@ Forced-lists rule house cs = (k : ℕ) → List-promised rule house (take k cs) 
 -- The three promises of one run.
 pub record Promises (rule : Rule) (house : ℕ) (cs : List Call) : Type 0 where
   pub equity-identity : Equity-identity rule house cs
-  pub open-calls : Open-calls rule house cs
+  pub open-margin-calls : Open-margin-calls rule house cs
   pub forced-lists : Forced-lists rule house cs
 
 -- The promises hold for any rule that keeps the laws, any house number and any list of calls.

@@ -14,7 +14,7 @@ pub const MAX_ACCOUNTS: usize = 32;
 pub struct Position {
     /// Plus is long, minus is short: −1,000 to 1,000.
     pub net: i32,
-    /// The sum of lots × price since the last settlement, which counts as a trade of all net lots: at most 10^14 in size.
+    /// Net lots × the last settlement price, and lots × price of each fill since: at most 10^14 in size.
     pub carry: i64,
 }
 

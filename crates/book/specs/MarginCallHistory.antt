@@ -39,29 +39,29 @@ pub record Issue : Type 0 where
   pub since : History
 
 -- Granted deposits and margin released by fills since the issue.
-abbrev pub paid-since : Rule → ℕ → History → History → ℕ
-paid-since rule a upto [] = 0
-paid-since rule a upto (e ∷ since) =
-    deposited-by a e + released-by rule a e (since ++ upto) + paid-since rule a upto since
+abbrev pub credit-since : Rule → ℕ → History → History → ℕ
+credit-since rule a upto [] = 0
+credit-since rule a upto (e ∷ since) =
+    deposited-by a e + released-by rule a e (since ++ upto) + credit-since rule a upto since
 
-abbrev pub paid : Rule → ℕ → Issue → ℕ
-paid rule a k = paid-since rule a (k .upto) (k .since)
+abbrev pub credit-of : Rule → ℕ → Issue → ℕ
+credit-of rule a k = credit-since rule a (k .upto) (k .since)
 
 -- A call is open while granted deposits and margin released by fills since its issue total less than its amount.
 abbrev pub is-open : Rule → ℕ → Option Issue → Bool
 is-open rule a None = false
-is-open rule a (Some k) = ltb (paid rule a k) (k .amount)
+is-open rule a (Some k) = ltb (credit-of rule a k) (k .amount)
 
 -- Whether an event is a closing.
 abbrev pub is-closing : Event → Bool
 is-closing e = on-settled e (λ prices. true) false
 
 -- EB below MMR after an event.
-abbrev pub short-of-maintenance : Rule → ℕ → History → Bool
-short-of-maintenance rule a h = below (balance a h) (maintenance (levels rule a h))
+abbrev pub below-maintenance : Rule → ℕ → History → Bool
+below-maintenance rule a h = below (balance a h) (maintenance (levels rule a h))
 
-abbrev pub short-of-force : Rule → ℕ → History → Bool
-short-of-force rule a h = below (balance a h) (force (levels rule a h))
+abbrev pub below-force : Rule → ℕ → History → Bool
+below-force rule a h = below (balance a h) (force (levels rule a h))
 
 -- A call issued at the newest event asks for IMR − EB.
 abbrev pub issued-at : Rule → ℕ → History → Issue
@@ -79,7 +79,7 @@ longer-since e (Some k) = Some (record { amount = k .amount; upto = k .upto; sin
 abbrev pub last-issue : Rule → ℕ → History → Option Issue
 last-issue rule a [] = None
 last-issue rule a (e ∷ h) =
-    cond (is-closing e && (not (is-open rule a (last-issue rule a h)) && short-of-maintenance rule a (e ∷ h)))
+    cond (is-closing e && (not (is-open rule a (last-issue rule a h)) && below-maintenance rule a (e ∷ h)))
     (Some (issued-at rule a (e ∷ h)))
     (longer-since e (last-issue rule a h))
 
@@ -90,15 +90,15 @@ openings (e ∷ since) = on-opened e 1 0 + openings since
 
 -- Low: at some closing from the issue on, EB was below FMR.
 abbrev pub low-since : Rule → ℕ → History → History → Bool
-low-since rule a upto [] = short-of-force rule a upto
+low-since rule a upto [] = below-force rule a upto
 low-since rule a upto (e ∷ since) =
-    (is-closing e && short-of-force rule a (e ∷ (since ++ upto))) || low-since rule a upto since
+    (is-closing e && below-force rule a (e ∷ (since ++ upto))) || low-since rule a upto since
 
--- An open call as Figures is to tell it: its credit is what was paid since its issue, its age the openings since, at most 2.
+-- An open call as Figures is to tell it: its credit is what was credited since its issue, its age the openings since, at most 2.
 abbrev pub told-call : Rule → ℕ → Issue → MarginCall
 told-call rule a k = record {
   amount = k .amount;
-  credit = paid rule a k;
+  credit = credit-of rule a k;
   age = min 2 (openings (k .since));
   low = low-since rule a (k .upto) (k .since);
 }
