@@ -1,1 +1,4 @@
+pub mod Facts
+pub mod Keeps
 
+pub mod Grants

@@ -4,7 +4,7 @@ use mathlib.Core.List.{List, [], _∷_}
 use Prim.Native.Nat.{ℕ, suc, _+_, _*_}
 use lib.Dec.{eqb, ltb, leb}
 use lib.IntN.{ℤ, natAbs, negℤ, _+ℤ_}
-use lib.ListN.{length, getD}
+use lib.ListN.{length, getD, drop}
 use Rattle.std.specs.declared.option.Option.{Option}
 use Rattle.std.specs.declared.option.Option.the-variants.{Some, None}
 use Rattle.book.specs.declared.account.Account.{Account}
@@ -55,7 +55,14 @@ abbrev pub slots-sound : List Series → List Position → ℕ → List (Option 
 slots-sound ss ps q [] = true
 slots-sound ss ps q (o ∷ os) = slot-sound ss ps q o && slots-sound ss ps (suc q) os
 
+abbrev pub is-flat : Position → Bool
+is-flat p = eqb (natAbs (p .net)) 0 && eqb (natAbs (p .carry)) 0
+
+-- Nothing is held past the series that are entered.
+unfoldable pub rest-flat : List Series → List Position → Bool
+rest-flat ss ps = all is-flat (drop (length ss) ps)
+
 -- An account among n orders placed today.
 unfoldable pub sound : List Series → ℕ → Account → Bool
 sound ss n x =
-    cash-fits (x .cash) && (all (position-sound n (open-count (x .orders))) (x .positions) && slots-sound ss (x .positions) 0 (x .orders))
+    cash-fits (x .cash) && (all (position-sound n (open-count (x .orders))) (x .positions) && (slots-sound ss (x .positions) 0 (x .orders) && rest-flat ss (x .positions)))

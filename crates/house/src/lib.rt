@@ -1,2 +1,4 @@
 //! A house: the calls on products, series and accounts, generic over the margin rule.
+mod accounts;
+pub mod cash;
 pub mod house;
