@@ -1,17 +1,16 @@
 -- What the test `sound` of an account says.
 use mathlib.Core.Path.{_≡_, refl, sym, ap, subst, _∙_}
-use mathlib.Core.Bool.{Bool, true, false, not, _&&_}
-use mathlib.Core.Logic.{_⊎_, inl, inr, ⊎-elim}
+use mathlib.Core.Bool.{Bool, true, not, _&&_}
+use mathlib.Core.Logic.{⊎-elim}
 use mathlib.Core.List.{List, [], _∷_}
-use Prim.Native.Nat.{ℕ, zero, suc, _+_, _-_, _*_, _^_, _≤_, _<_}
+use Prim.Native.Nat.{ℕ, zero, suc, _+_, _-_, _*_, _≤_, _<_}
 use native.Mathlib.Nat.{zero-add}
 use native.Mathlib.Omega.{arith}
 use lib.Dec.{eqb, ltb, leb}
-use lib.IntN.{ℤ, pos, negsuc, natAbs, negℤ}
-use lib.ListN.{length, getD, drop, length-drop}
+use lib.IntN.{ℤ, pos, natAbs, negℤ}
+use lib.ListN.{length, getD, drop}
 use lib.Seq.{getD-drop}
 use Rattle.std.specs.Orderings.{Decides}
-use Rattle.std.specs.shelf.Lists.{All}
 use Rattle.std.specs.declared.option.Option.{Option}
 use Rattle.std.specs.declared.option.Option.the-variants.{Some, None}
 use Rattle.std.proofs.shelf.Elements.{all-getD, all-from-getD}
@@ -27,7 +26,7 @@ use Rattle.book.specs.declared.market.Series.{Series}
 use Rattle.book.specs.Closing.{all}
 use Rattle.book.specs.House.{max-cash, cash-fits}
 use Rattle.book.specs.Market.{flat, product-of}
-use Rattle.account.specs.Bounds.{Small-nets, Small-carries, Trade-fits, Order-fits, Second-fits, Sound}
+use Rattle.account.specs.Bounds.{Small-nets, Trade-fits, Order-fits, Second-fits, Sound}
 use Rattle.house.specs.Sound.{largest-leg, open-count, position-sound, net-after, leg-sound, second-sound, trade-sound, slot-sound, slots-sound, is-flat, rest-flat, sound}
 
 abbrev pub Second-fills : List Series → List Position → ℕ → Trade → Option ℕ → Type 0

@@ -1,17 +1,17 @@
 -- What each change of an account leaves sound.
 use mathlib.Core.Path.{_≡_, refl, sym, ap, subst, _∙_}
-use mathlib.Core.Bool.{Bool, true, false, not, _&&_}
-use mathlib.Core.Logic.{_⊎_, inl, inr, ⊎-elim}
+use mathlib.Core.Bool.{Bool, true, false}
+use mathlib.Core.Logic.{⊎-elim}
 use mathlib.Core.List.{List, [], _∷_, _++_, map}
-use Prim.Native.Nat.{ℕ, zero, suc, _+_, _-_, _*_, _≤_, _<_}
+use Prim.Native.Nat.{ℕ, zero, suc, _+_, _≤_, _<_}
 use native.Mathlib.Omega.{arith}
-use lib.Dec.{eqb, ltb, leb}
 use lib.IntN.{ℤ, pos, natAbs, negℤ, _+ℤ_, _*ℤ_}
 use lib.ListN.{length, getD, set, length-set, replicate}
 use lib.Seq.{getD-set-same, getD-set-other}
 use Rattle.std.specs.declared.option.Option.{Option}
 use Rattle.std.specs.declared.option.Option.the-variants.{Some, None}
 use Rattle.std.proofs.shelf.Lists.{getD-append-left, getD-map, getD-past, getD-push, getD-replicate, length-map, length-push, length-replicate}
+use Rattle.std.proofs.shelf.Signed.{ints}
 use Rattle.std.proofs.shelf.Tests.{leb-true, cases-eq, cases-lt}
 use Rattle.book.specs.declared.account.Account.{Account}
 use Rattle.book.specs.declared.account.MarginCall.{MarginCall}
@@ -20,11 +20,18 @@ use Rattle.book.specs.declared.account.Position.{Position}
 use Rattle.book.specs.declared.account.Trade.{Trade}
 use Rattle.book.specs.declared.market.Series.{Series}
 use Rattle.book.specs.ClosedCalls.{opened-account}
+use Rattle.book.specs.Closing.{settle-positions, settle-account}
+use Rattle.book.specs.Equity.{equity}
 use Rattle.book.specs.House.{max-cash, cash-fits, new-account}
 use Rattle.book.specs.Market.{Market, flat, no-series, product-of, series-at}
+use Rattle.book.specs.Orders.{any-open, fill-leg, fill-second, filled}
+use Rattle.book.specs.ForcedList.{with-fill}
+use Rattle.book.specs.Prices.{mark}
 use Rattle.book.specs.TradingCalls.{with-cash, with-order, order-in, sent}
+use Rattle.account.proofs.Fills.{leg-length, leg-other, leg-here, filled-length, filled-nets}
+use Rattle.account.proofs.Sizes.{abs-product}
 use Rattle.house.specs.Sound.{largest-leg, open-count, net-after, trade-sound, sound}
-use Rattle.house.proofs.Facts.{Second-fills, Fillable, Slot-fits, Facts, fillable-facts, fillable-test, facts, test}
+use Rattle.house.proofs.Facts.{Second-fills, Fillable, Slot-fits, Facts, fillable-facts, facts, test, trade-fits}
 
 -- Every account of a list passes a test.
 abbrev pub Each : (Account → Bool) → List Account → Type 0
@@ -198,3 +205,143 @@ keeps-new ss n = test ss n new-account (record {
   slots = λ q. subst (Slot-fits ss (replicate 24 flat) q) (sym (same-each 8 None q)) tt;
   rest = λ j le. same-each 24 flat j;
 })
+
+-- an account without an open order
+none-open : (os : List (Option Order)) (q : ℕ) → any-open os ≡ false → getD os q None ≡ None
+none-open [] q h = refl
+none-open (None ∷ os) zero h = refl
+none-open (None ∷ os) (suc q) h = none-open os q h
+none-open (Some o ∷ os) q h = let z : _≡_ {A = ℕ} 0 1 = cc in absurd (omega arith)
+
+count-zero : (os : List (Option Order)) → any-open os ≡ false → open-count os ≡ 0
+count-zero [] h = refl
+count-zero (None ∷ os) h = count-zero os h
+count-zero (Some o ∷ os) h = let z : _≡_ {A = ℕ} 0 1 = cc in absurd (omega arith)
+
+-- settled positions, one by one
+settled-length : (ss : List Series) (ps : List Position) → length (settle-positions ss ps) ≡ length ps
+settled-length [] ps = refl
+settled-length (s ∷ ss) [] = refl
+settled-length (s ∷ ss) (p ∷ ps) = ap suc (settled-length ss ps)
+
+settled-net : (ss : List Series) (ps : List Position) (j : ℕ) → getD (settle-positions ss ps) j flat .net ≡ getD ps j flat .net
+settled-net [] ps j = refl
+settled-net (s ∷ ss) [] j = refl
+settled-net (s ∷ ss) (p ∷ ps) zero = refl
+settled-net (s ∷ ss) (p ∷ ps) (suc j) = settled-net ss ps j
+
+settled-carry : (ss : List Series) (ps : List Position) (j : ℕ) → j < length ss → j < length ps
+    → getD (settle-positions ss ps) j flat .carry ≡ getD ps j flat .net *ℤ pos (mark (series-at ss j .quote))
+settled-carry [] ps j h k = absurd (omega arith)
+settled-carry (s ∷ ss) [] j h k = absurd (omega arith)
+settled-carry (s ∷ ss) (p ∷ ps) zero h k = refl
+settled-carry (s ∷ ss) (p ∷ ps) (suc j) h k = settled-carry ss ps j (omega arith) (omega arith)
+
+settled-past : (ss : List Series) (ps : List Position) (j : ℕ) → length ss ≤ j → getD (settle-positions ss ps) j flat ≡ getD ps j flat
+settled-past [] ps j h = refl
+settled-past (s ∷ ss) [] j h = refl
+settled-past (s ∷ ss) (p ∷ ps) zero h = absurd (omega arith)
+settled-past (s ∷ ss) (p ∷ ps) (suc j) h = settled-past ss ps j (omega arith)
+
+pub keeps-settled : (ss : List Series) (n : ℕ) (m : Market) (x : Account) → length (m .series) ≡ length ss → ((i : ℕ) → mark (series-at (m .series) i .quote) ≤ 10_000_000)
+    → sound ss n x ≡ true → any-open (x .orders) ≡ false → cash-fits (equity m x) ≡ true → sound (m .series) 0 (settle-account m x) ≡ true
+keeps-settled ss n m x same marks h none fits = test (m .series) 0 (settle-account m x) (record {
+  cash = leb-true (natAbs (equity m x)) max-cash fits;
+  nets = λ j. rw (settled-net (m .series) ps j) (f .nets j);
+  carries = λ j lt. let here = small j (omega (arith, settled-length (m .series) ps)) in omega (arith, count-zero (x .orders) none);
+  slots = λ q. subst (Slot-fits (m .series) (settle-positions (m .series) ps) q) (sym (none-open (x .orders) q none)) tt;
+  rest = λ j le. settled-past (m .series) ps j le ∙ f .rest j (omega arith);
+})
+  where
+    ps : List Position
+    ps = x .positions
+
+    f : Facts ss n x
+    f = facts ss n x h
+
+    small : (j : ℕ) → j < length ps → natAbs (getD (settle-positions (m .series) ps) j flat .carry) ≤ largest-leg
+    small j lt =
+        ⊎-elim (λ (in′ : j < length (m .series)). rw (settled-carry (m .series) ps j in′ lt)
+            (abs-product (getD ps j flat .net) (pos (mark (series-at (m .series) j .quote))) 1_000 10_000_000 (f .nets j) (marks j)))
+        (λ past. rw (settled-past (m .series) ps j past ∙ f .rest j (omega arith)) (omega arith)) (cases-lt j (length (m .series)))
+
+abs-sum : (a b : ℤ) → natAbs (a +ℤ b) ≤ natAbs a + natAbs b
+abs-sum a b = omega (arith, ints)
+
+abs-neg : (a : ℤ) → natAbs (negℤ a) ≡ natAbs a
+abs-neg a = omega (arith, ints)
+
+leg-carry : (i j : ℕ) (lots : ℤ) (price : ℕ) (ps : List Position) → i < length ps → natAbs lots ≤ 1_000 → price ≤ 10_000_000
+    → natAbs (getD (fill-leg i lots price ps) j flat .carry) ≤ natAbs (getD ps j flat .carry) + largest-leg
+leg-carry i j lots price ps there few low =
+    ⊎-elim (λ (e : i ≡ j). subst (λ (k : ℕ). natAbs (getD (fill-leg i lots price ps) k flat .carry) ≤ natAbs (getD ps k flat .carry) + largest-leg) e here)
+    (λ apart. rw (leg-other i j lots price ps apart) (omega arith)) (cases-eq i j)
+  where
+    here : natAbs (getD (fill-leg i lots price ps) i flat .carry) ≤ natAbs (getD ps i flat .carry) + largest-leg
+    here =
+        rw (leg-here i lots price ps there)
+        (omega (arith, abs-sum (getD ps i flat .carry) (lots *ℤ pos price), abs-product lots (pos price) 1_000 10_000_000 few low))
+
+-- a trade of a product that is filled
+module _ (ss : List Series) (ps : List Position) (q : ℕ) (t : Trade) (price second-price : ℕ) (f : Fillable ss ps q t) where
+  -- leaves what is of another product, or not entered
+  filled-other : (j : ℕ) → ((i : ℕ) → i < length ss → product-of ss i ≡ q → i ≡ j → ⊥) → getD (filled t price second-price ps) j flat ≡ getD ps j flat
+  filled-other j other = by (t .second) (f .second) ∙ leg-other (t .series) j (t .lots) price ps (other (t .series) (f .there) (f .product))
+    where
+      qs : List Position
+      qs = fill-leg (t .series) (t .lots) price ps
+
+      by : (o : Option ℕ) → Second-fills ss ps q t o → getD (fill-second o (negℤ (t .lots)) second-price qs) j flat ≡ getD qs j flat
+      by None s = refl
+      by (Some k) s = leg-other k j (negℤ (t .lots)) second-price qs (other k (s .0) (s .1 .1 .0))
+
+  -- adds one leg at most to a carry
+  filled-carry : length ss ≤ length ps → price ≤ 10_000_000 → second-price ≤ 10_000_000 → (j : ℕ)
+      → natAbs (getD (filled t price second-price ps) j flat .carry) ≤ natAbs (getD ps j flat .carry) + largest-leg
+  filled-carry room low second-low j = by (t .second) (f .second)
+    where
+      qs : List Position
+      qs = fill-leg (t .series) (t .lots) price ps
+
+      first : natAbs (getD qs j flat .carry) ≤ natAbs (getD ps j flat .carry) + largest-leg
+      first = leg-carry (t .series) j (t .lots) price ps (omega (arith, f .there)) (f .lots) low
+
+      by : (o : Option ℕ) → Second-fills ss ps q t o
+          → natAbs (getD (fill-second o (negℤ (t .lots)) second-price qs) j flat .carry) ≤ natAbs (getD ps j flat .carry) + largest-leg
+      by None s = first
+      by (Some k) s =
+          ⊎-elim (λ (e : t .series ≡ j). rw (leg-other k j (negℤ (t .lots)) second-price qs (λ d. s .1 .0 (e ∙ sym d))) first)
+          (λ apart. let more = leg-carry k j (negℤ (t .lots)) second-price qs (omega (arith, s .0, leg-length (t .series) (t .lots) price ps)) (omega (arith, f .lots, abs-neg (t .lots))) second-low in
+              rw (← leg-other (t .series) j (t .lots) price ps apart) more)
+          (cases-eq (t .series) j)
+
+pub keeps-filled : (ss : List Series) (n : ℕ) (m : Market) (x : Account) (q : ℕ) (o : Order) (price second-price : ℕ)
+    → length ss ≤ length (x .positions) → price ≤ 10_000_000 → second-price ≤ 10_000_000 → sound ss n x ≡ true → order-in x q ≡ Some o
+    → sound ss n (with-order q None (with-fill m (filled (o .trade) price second-price (x .positions)) x)) ≡ true
+keeps-filled ss n m x q o price second-price room low second-low h is = test ss n (with-order q None (with-fill m qs x)) (record {
+  cash = f .cash;
+  nets = filled-nets (length ss) (o .trade) price second-price ps room (trade-fits ss ps q (o .trade) fits) (f .nets);
+  carries = λ j lt. omega (arith, f .carries j (omega (arith, filled-length (o .trade) price second-price ps)),
+      filled-carry ss ps q (o .trade) price second-price fits room low second-low j, count-ended (x .orders) q o is);
+  slots = slots-set (Slot-fits ss qs) (x .orders) q None tt still (λ _. tt);
+  rest = λ j le. filled-other ss ps q (o .trade) price second-price fits j (λ i lt _ e. omega arith) ∙ f .rest j le;
+})
+  where
+    ps : List Position
+    ps = x .positions
+
+    qs : List Position
+    qs = filled (o .trade) price second-price ps
+
+    f : Facts ss n x
+    f = facts ss n x h
+
+    fits : Fillable ss ps q (o .trade)
+    fits = subst (Slot-fits ss ps q) is (f .slots q)
+
+    -- the other slots are of other products
+    still : (k : ℕ) → (q ≡ k → ⊥) → Slot-fits ss qs k (getD (x .orders) k None)
+    still k apart =
+        slot-still ss ss ps qs k (getD (x .orders) k None) (omega arith) (λ i _. refl)
+        (λ j of. filled-other ss ps q (o .trade) price second-price fits j (λ i lt is′ e. apart (sym is′ ∙ ap (product-of ss) e ∙ of)))
+        (f .slots k)

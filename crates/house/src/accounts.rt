@@ -3,6 +3,7 @@ ghost use mathlib.Core.Path.{_≡_};
 ghost use mathlib.Core.Bool.{true};
 ghost use Prim.Native.Nat.{_<_};
 ghost use Rattle.std.specs.Of.Vec.{vec-len, vec-items};
+ghost use Rattle.account.specs.Bounds.{Sound};
 ghost use Rattle.book.specs.House.{account-at, has-account, with-account};
 ghost use Rattle.house.specs.Sound.{sound};
 ghost use Rattle.house.specs.View.{trading};
@@ -23,6 +24,7 @@ impl<R: MarginRule> House<R> {
         requires { ⌜ account < vec-len (now self .accounts) ⌝ }
         ensures value { λ r. ⌜ r ≡ account-at (trading meaning (now (self .entry))) account ⌝ }
         ensures sound { λ r. ⌜ sound (vec-items (now (self .entry) .market .series)) (vec-len (now (self .entry) .placed)) r ≡ true ⌝ }
+        ensures small { λ r. ⌜ Sound (vec-len (now (self .entry) .market .series)) r ⌝ }
     {
         self.accounts[account]
     }

@@ -5,7 +5,7 @@ ghost use lib.IntN.{pos, negℤ, _+ℤ_, _-ℤ_};
 ghost use lib.Signed.{leZ};
 ghost use Rattle.std.specs.declared.option.Option.the-variants.{Some, None};
 ghost use Rattle.book.specs.House.{max-cash};
-ghost use Rattle.book.specs.Call.{Clock, Deposit, Withdrawal, Figures};
+ghost use Rattle.book.specs.Call.{Clock, Deposit, Withdrawal, Figures as FiguresCall};
 ghost use Rattle.book.specs.Step.{step};
 ghost use Rattle.book.specs.TradingCalls.{amount-in-range, with-cash};
 ghost use Rattle.house.specs.Reply.{done, told};
@@ -71,6 +71,13 @@ fn cash_without(cash: i64, amount: u64) -> Option<i64>
     }
 }
 
+/// Whether an amount is at most what is free.
+fn covers(free: i128, amount: u64) -> bool
+    ensures { λ r. ⌜ r ≡ leZ (pos amount) free ⌝ }
+{
+    amount as i128 <= free
+}
+
 /// An account with other cash and another call.
 fn with_cash(account: &Account, cash: i64, call: Option<MarginCall>) -> Account
     ensures { λ r. ⌜ r ≡ with-cash cash call (now (account .entry)) ⌝ }
@@ -101,5 +108,44 @@ impl<R: MarginRule> House<R> {
         let after = with_cash(&before, cash, credited(before.call, amount));
         self.put(account as usize, after);
         Ok(())
+    }
+}
+
+impl<R: MarginRule> House<R> {
+    /// Takes from an account's cash, with no call open and no more than is free.
+    pub fn withdraw(&mut self, account: u64, amount: u64) -> Result<(), Refusal>
+        ensures { λ r. ⌜ step (trading meaning (now (self .entry))) (Withdrawal account amount) ≡ (done r, trading meaning (now (self .exit))) ⌝ }
+    {
+        if !self.has_account(account) {
+            return Err(Refusal::Unknown);
+        }
+        if !amount_in_range(amount) {
+            return Err(Refusal::OutOfRange);
+        }
+        let before = self.account_at(account as usize);
+        if before.call.is_some() {
+            return Err(Refusal::CallOpen);
+        }
+        if !covers(self.market.free(&before), amount) {
+            return Err(Refusal::ExceedsFree);
+        }
+        let Some(cash) = cash_without(before.cash, amount) else {
+            return Err(Refusal::CashLimit);
+        };
+        let after = with_cash(&before, cash, before.call);
+        self.put(account as usize, after);
+        Ok(())
+    }
+
+    /// Tells an account's figures.
+    pub fn figures(&self, account: u64) -> Result<Figures, Refusal>
+        ensures trading { λ r. ⌜ step (trading meaning (now (self .entry))) (FiguresCall account) ≡ (told r, trading meaning (now (self .entry))) ⌝ }
+        ensures closed { λ r. ⌜ step (closed meaning (now (self .entry))) (FiguresCall account) ≡ (told r, closed meaning (now (self .entry))) ⌝ }
+    {
+        if !self.has_account(account) {
+            return Err(Refusal::Unknown);
+        }
+        let found = self.account_at(account as usize);
+        Ok(self.market.figures(&found))
     }
 }
