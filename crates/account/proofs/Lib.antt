@@ -4,3 +4,4 @@ pub mod Sides
 pub mod Levels
 pub mod Fills
 pub mod Settling
+pub mod Listings

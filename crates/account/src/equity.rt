@@ -38,7 +38,7 @@ pub fn mark_of(quote: Quote) -> u32
 }
 
 /// What an account has gained in a series.
-fn gain_in(series: Series, position: Position) -> i128
+pub(crate) fn gain_in(series: Series, position: Position) -> i128
     ensures value { λ r. ⌜ r ≡ gain (holding series position) ⌝ }
     ensures size { λ r. ⌜ natAbs r ≤ 2 ^ 97 ⌝ }
 {
@@ -46,7 +46,7 @@ fn gain_in(series: Series, position: Position) -> i128
     scaled(series.multiplier, worth as i128 - position.carry as i128)
 }
 
-fn add(a: i128, b: i128) -> i128
+pub(crate) fn add(a: i128, b: i128) -> i128
     requires { ⌜ natAbs a ≤ 2 ^ 120 ⌝ ∗ ⌜ natAbs b ≤ 2 ^ 120 ⌝ }
     ensures value { λ r. ⌜ r ≡ a +ℤ b ⌝ }
     ensures size { λ r. ⌜ natAbs r ≤ natAbs a + natAbs b ⌝ }

@@ -3,6 +3,7 @@ pub mod calls;
 pub mod equity;
 pub mod figures;
 pub mod fill;
+pub mod listing;
 pub mod market;
 pub mod orders;
 pub mod requirements;

@@ -72,7 +72,7 @@ fn cash_without(cash: i64, amount: u64) -> Option<i64>
 }
 
 /// Whether an amount is at most what is free.
-fn covers(free: i128, amount: u64) -> bool
+pub(crate) fn covers(free: i128, amount: u64) -> bool
     ensures { λ r. ⌜ r ≡ leZ (pos amount) free ⌝ }
 {
     amount as i128 <= free

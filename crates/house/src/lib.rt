@@ -2,3 +2,4 @@
 mod accounts;
 pub mod cash;
 pub mod house;
+pub mod orders;
