@@ -31,7 +31,7 @@ use std::alloc::Global;
 pub const MAX_PRICE: u64 = 10_000_000;
 
 /// Whether a price is in range.
-fn is_price(price: u64) -> bool
+pub fn is_price(price: u64) -> bool
     ensures { λ r. ⌜ r ≡ price-in-range price ⌝ }
 {
     1 <= price && price <= MAX_PRICE

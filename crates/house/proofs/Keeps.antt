@@ -345,3 +345,11 @@ keeps-filled ss n m x q o price second-price room low second-low h is = test ss 
         slot-still ss ss ps qs k (getD (x .orders) k None) (omega arith) (λ i _. refl)
         (λ j of. filled-other ss ps q (o .trade) price second-price fits j (λ i lt is′ e. apart (sym is′ ∙ ap (product-of ss) e ∙ of)))
         (f .slots k)
+
+-- every account is sound where one of them was replaced and an order was added to the day's
+pub placed-each : (ss : List Series) (n m : ℕ) (xs : List Account) (a len : ℕ) (y : Account) → len ≡ length xs → m ≡ n + 1
+    → ((k : ℕ) (d : Account) → k < len → sound ss n (getD xs k d) ≡ true) → sound ss (n + 1) y ≡ true
+    → (k : ℕ) (d : Account) → k < len → sound ss m (getD (set xs a y) k d) ≡ true
+placed-each ss n m xs a len y long more old new k d lt =
+    rw more (each-set (sound ss (n + 1)) xs a y
+        (λ j e h. keeps-more ss n (n + 1) (getD xs j e) (omega arith) (old j e (omega (arith, long)))) new k d (omega (arith, long, length-set xs a y)))

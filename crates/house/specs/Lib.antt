@@ -1,3 +1,4 @@
 pub mod Sound
 pub mod View
 pub mod Reply
+pub mod Places

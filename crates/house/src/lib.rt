@@ -2,4 +2,5 @@
 mod accounts;
 pub mod cash;
 pub mod house;
+pub mod listing;
 pub mod orders;

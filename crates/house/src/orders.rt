@@ -1,21 +1,31 @@
 //! Orders: checked, sent or dropped, filled or cancelled.
 ghost use mathlib.Core.Path.{_≡_};
 ghost use mathlib.Core.Bool.{true, not, _&&_, _||_};
-ghost use Prim.Native.Nat.{ℕ, _+_, _≤_, _<_};
+ghost use Prim.Native.Nat.{suc, _≤_, _<_};
 ghost use lib.IntN.{negℤ, natAbs};
 ghost use lib.ListN.{length};
 ghost use Rattle.std.specs.Of.Vec.{vec-len, vec-items};
 ghost use Rattle.std.specs.Options.{isSome};
+ghost use Rattle.std.specs.declared.option.Option.the-variants.{None};
 ghost use Rattle.account.specs.Bounds.{Sound, Trade-fits, Below};
 ghost use Rattle.account.specs.View.{the-market};
-ghost use Rattle.book.specs.House.{has-account, has-series};
+ghost use Rattle.book.specs.Call.{Check};
+ghost use Rattle.book.specs.House.{account-at, has-account, has-series};
 ghost use Rattle.book.specs.Market.{product-of};
-ghost use Rattle.book.specs.TradingCalls.{lots-in-range, knows-second, second-fits, net-fits, second-net-fits, order-in, allowed-under-call, affordable};
+ghost use Rattle.book.specs.Step.{step};
+ghost use Rattle.book.specs.TradingCalls.{lots-in-range, knows-second, second-fits, net-fits, second-net-fits, order-in, with-order, allowed-under-call, affordable};
+ghost use Rattle.house.specs.Places.{held};
+ghost use Rattle.house.specs.Reply.{ordered};
+ghost use Rattle.house.specs.Sound.{trade-sound};
 ghost use Rattle.house.specs.View.{trading};
 use crate::cash::covers;
 use crate::house::House;
 use book::account::Account;
+use book::account::Order;
+use book::account::Placement;
+use book::account::Stage;
 use book::account::Trade;
+use book::refusal::Refusal;
 use rules::rule::MarginRule;
 
 /// The most lots of an order, and of a position, in size.
@@ -147,4 +157,82 @@ fn has_order(account: &Account, product: usize) -> bool
     ensures { λ r. ⌜ r ≡ isSome (order-in (now (account .entry)) product) ⌝ }
 {
     account.orders[product].is_some()
+}
+
+/// An account with another order, or none, in a product.
+fn with_order(account: &Account, product: usize, order: Option<Order>) -> Account
+    requires { ⌜ product < 8 ⌝ }
+    ensures { λ r. ⌜ r ≡ with-order product order (now (account .entry)) ⌝ }
+{
+    let mut orders = account.orders;
+    orders[product] = order;
+    Account {
+        cash: account.cash,
+        positions: account.positions,
+        orders,
+        call: account.call,
+    }
+}
+
+impl<R: MarginRule> House<R> {
+    /// Holds an order under the day's next order number.
+    fn place(&mut self, account: usize, product: usize, trade: Trade) -> u64
+        requires there { ⌜ account < vec-len (now self .accounts) ⌝ }
+        requires product { ⌜ product < 8 ⌝ }
+        requires left { ⌜ vec-len (now self .placed) < 9_999 ⌝ }
+        requires none { ⌜ order-in (account-at (trading meaning (now self)) account) product ≡ None ⌝ }
+        requires sound { ⌜ trade-sound (vec-items (now self .market .series)) (account-at (trading meaning (now self)) account .positions) product trade ≡ true ⌝ }
+        ensures number { λ r. ⌜ r ≡ suc (length (vec-items (now (self .entry) .placed))) ⌝ }
+        ensures state { λ r. ⌜ trading meaning (now (self .exit)) ≡ held (trading meaning (now (self .entry))) (now (self .entry) .minute) (vec-items (now (self .entry) .placed)) account product trade ⌝ }
+    {
+        let number = self.placed.len() as u32 + 1;
+        let before = self.account_at(account);
+        let order = Order {
+            number,
+            stage: Stage::Held,
+            trade,
+        };
+        self.accounts[account] = with_order(&before, product, Some(order));
+        self.placed.push_reserved(Placement { account, product });
+        number as u64
+    }
+}
+
+/// How many order numbers a day has.
+const LAST_NUMBER: usize = 9_999;
+
+impl<R: MarginRule> House<R> {
+    /// Tests an order, which is then held under the day's next order number.
+    pub fn check(&mut self, account: u64, series: u64, lots: i64, second: Option<u64>) -> Result<u64, Refusal>
+        ensures { λ r. ⌜ step (trading meaning (now (self .entry))) (Check account series lots second) ≡ (ordered r, trading meaning (now (self .exit))) ⌝ }
+    {
+        if !self.knows(account, series, second) {
+            return Err(Refusal::Unknown);
+        }
+        if !lots_in_range(lots) {
+            return Err(Refusal::OutOfRange);
+        }
+        let trade = trade_of(series, lots, second);
+        if !self.second_fits(trade) {
+            return Err(Refusal::SecondSeries);
+        }
+        let before = self.account_at(account as usize);
+        if !nets_fit(&before, trade) {
+            return Err(Refusal::PositionLimit);
+        }
+        let product = self.product_of(trade.series);
+        if has_order(&before, product) {
+            return Err(Refusal::OrderOpen);
+        }
+        if self.placed.len() >= LAST_NUMBER {
+            return Err(Refusal::OrderNumbersUsed);
+        }
+        if !self.allowed_under_call(&before, trade) {
+            return Err(Refusal::CallOpen);
+        }
+        if !self.affordable(&before, trade) {
+            return Err(Refusal::ExceedsFree);
+        }
+        Ok(self.place(account as usize, product, trade))
+    }
 }

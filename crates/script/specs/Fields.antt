@@ -1,0 +1,24 @@
+-- The numbers that words write, and how many words there are.
+use mathlib.Core.List.{List, [], _∷_}
+use Prim.Native.Nat.{ℕ}
+use lib.IntN.{ℤ}
+use Rattle.std.specs.declared.option.Option.{Option}
+use Rattle.std.specs.declared.option.Option.the-variants.{Some, None}
+use Rattle.script.specs.Number.{then, number, signed, second}
+
+-- What the only word says.
+abbrev pub only : {X : Type 0} → (List ℕ → Option X) → List (List ℕ) → Option X
+only read [] = None
+only read (w ∷ []) = read w
+only read (w ∷ v ∷ ws) = None
+
+abbrev pub one : List (List ℕ) → Option ℕ
+one ws = only number ws
+
+abbrev pub two : List (List ℕ) → Option (ℕ × ℕ)
+two [] = None
+two (w ∷ ws) = then (number w) (λ a. then (one ws) (λ b. Some (a, b)))
+
+abbrev pub three : List (List ℕ) → Option (ℕ × ℕ × ℕ)
+three [] = None
+three (w ∷ ws) = then (number w) (λ a. then (two ws) (λ p. Some (a, p .0, p .1)))

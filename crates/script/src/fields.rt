@@ -1,0 +1,57 @@
+//! The words of a line, and the numbers that they write.
+ghost use mathlib.Core.Path.{_≡_};
+ghost use Prim.Native.Nat.{_≤_};
+ghost use lib.ListN.{length};
+ghost use Rattle.std.specs.shelf.Lists.{leading};
+ghost use Rattle.script.specs.Words.{plain, before-comment, words};
+ghost use Rattle.script.specs.Fields.{one, two, three};
+use crate::number::number;
+use sheet::word::split_word;
+
+/// How many bytes stand before the first `#`.
+fn plain_len(line: &[u8]) -> usize
+    ensures value { λ r. ⌜ r ≡ leading plain (now (line .entry)) ⌝ }
+    ensures bound { λ r. ⌜ r ≤ length (now (line .entry)) ⌝ }
+{
+    for (i, b) in line.iter().enumerate() {
+        if *b == b'#' {
+            return i;
+        }
+    }
+    line.len()
+}
+
+/// A line up to the first `#`.
+pub fn before_comment(line: &[u8]) -> &[u8]
+    ensures { λ r. ⌜ now r ≡ before-comment (now (line .entry)) ⌝ }
+{
+    &line[..plain_len(line)]
+}
+
+/// The number of the only word.
+pub fn one(text: &[u8]) -> Option<u64>
+    ensures { λ r. ⌜ r ≡ one (words (now (text .entry))) ⌝ }
+{
+    let (word, rest) = split_word(text);
+    if rest.is_empty() { number(word) } else { None }
+}
+
+/// The numbers of two words and no more.
+pub fn two(text: &[u8]) -> Option<(u64, u64)>
+    ensures { λ r. ⌜ r ≡ two (words (now (text .entry))) ⌝ }
+{
+    let (word, rest) = split_word(text);
+    let first = number(word)?;
+    let second = one(rest)?;
+    Some((first, second))
+}
+
+/// The numbers of three words and no more.
+pub fn three(text: &[u8]) -> Option<(u64, u64, u64)>
+    ensures { λ r. ⌜ r ≡ three (words (now (text .entry))) ⌝ }
+{
+    let (word, rest) = split_word(text);
+    let first = number(word)?;
+    let (second, third) = two(rest)?;
+    Some((first, second, third))
+}
