@@ -1,7 +1,8 @@
 -- An order that passed its tests can be filled.
 use mathlib.Core.Path.{_≡_, refl, sym, subst}
-use mathlib.Core.Bool.{Bool, true, false, not, _&&_}
-use Prim.Native.Nat.{ℕ, _≤_, _<_}
+use mathlib.Core.Bool.{Bool, true, false, not, cond, _&&_}
+use mathlib.Core.List.{List}
+use Prim.Native.Nat.{ℕ, _-_, _≤_, _<_}
 use native.Mathlib.Omega.{arith}
 use lib.Dec.{eqb, ltb, leb}
 use lib.IntN.{ℤ, negℤ, natAbs}
@@ -9,6 +10,7 @@ use lib.ListN.{length}
 use Rattle.std.proofs.shelf.Tests.{and-parts}
 use Rattle.std.proofs.shelf.Ways.{tells}
 use Rattle.std.specs.Options.{isSome}
+use Rattle.std.specs.shelf.Maps.{nth}
 use Rattle.std.specs.declared.option.Option.{Option}
 use Rattle.std.specs.declared.option.Option.the-variants.{Some, None}
 use Rattle.book.specs.declared.account.Account.{Account}
@@ -52,3 +54,7 @@ checked-terms s a i lots second x t is knows ranged fits nets =
 pub none-there : {A : Type 0} (o : Option A) → false ≡ isSome o → o ≡ None
 none-there None h = refl
 none-there (Some x) h = cc
+
+-- the place of a number from 1 on
+pub numbered : {A : Type 0} (xs : List A) (n : ℕ) (o : Option A) → 1 ≤ n → nth xs (n - 1) ≡ o → o ≡ cond (ltb 0 n) (nth xs (n - 1)) None
+numbered xs n o h is = let t : ltb 0 n ≡ true = grind (arith, tells) in rw t (sym is)

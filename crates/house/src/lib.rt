@@ -4,3 +4,4 @@ pub mod cash;
 pub mod house;
 pub mod listing;
 pub mod orders;
+pub mod sent;

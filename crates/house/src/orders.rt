@@ -160,7 +160,7 @@ fn has_order(account: &Account, product: usize) -> bool
 }
 
 /// An account with another order, or none, in a product.
-fn with_order(account: &Account, product: usize, order: Option<Order>) -> Account
+pub(crate) fn with_order(account: &Account, product: usize, order: Option<Order>) -> Account
     requires { ⌜ product < 8 ⌝ }
     ensures { λ r. ⌜ r ≡ with-order product order (now (account .entry)) ⌝ }
 {

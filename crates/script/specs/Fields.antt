@@ -6,14 +6,14 @@ use Rattle.std.specs.declared.option.Option.{Option}
 use Rattle.std.specs.declared.option.Option.the-variants.{Some, None}
 use Rattle.script.specs.Number.{then, number, signed, second}
 
--- What the only word says.
-abbrev pub only : {X : Type 0} → (List ℕ → Option X) → List (List ℕ) → Option X
-only read [] = None
-only read (w ∷ []) = read w
-only read (w ∷ v ∷ ws) = None
+-- A word and no more.
+abbrev pub only : List (List ℕ) → Option (List ℕ)
+only [] = None
+only (w ∷ []) = Some w
+only (w ∷ v ∷ ws) = None
 
 abbrev pub one : List (List ℕ) → Option ℕ
-one ws = only number ws
+one ws = then (only ws) number
 
 abbrev pub two : List (List ℕ) → Option (ℕ × ℕ)
 two [] = None

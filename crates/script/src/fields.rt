@@ -2,9 +2,10 @@
 ghost use mathlib.Core.Path.{_≡_};
 ghost use Prim.Native.Nat.{_≤_};
 ghost use lib.ListN.{length};
+ghost use Rattle.std.specs.Options.{mapped};
 ghost use Rattle.std.specs.shelf.Lists.{leading};
 ghost use Rattle.script.specs.Words.{plain, before-comment, words};
-ghost use Rattle.script.specs.Fields.{one, two, three};
+ghost use Rattle.script.specs.Fields.{only, one, two, three};
 use crate::number::number;
 use sheet::word::split_word;
 
@@ -28,12 +29,22 @@ pub fn before_comment(line: &[u8]) -> &[u8]
     &line[..plain_len(line)]
 }
 
-/// The number of the only word.
+/// The word of a text that has one word.
+fn only(text: &[u8]) -> Option<&[u8]>
+    ensures { λ r. ⌜ mapped now r ≡ only (words (now (text .entry))) ⌝ }
+{
+    if text.is_empty() {
+        return None;
+    }
+    let (word, rest) = split_word(text);
+    if rest.is_empty() { Some(word) } else { None }
+}
+
+/// The number of a text that has one word.
 pub fn one(text: &[u8]) -> Option<u64>
     ensures { λ r. ⌜ r ≡ one (words (now (text .entry))) ⌝ }
 {
-    let (word, rest) = split_word(text);
-    if rest.is_empty() { number(word) } else { None }
+    number(only(text)?)
 }
 
 /// The numbers of two words and no more.

@@ -1,7 +1,9 @@
-use Prim.Native.Nat.{ℕ, _<_}
+use Prim.Native.Nat.{_+_}
 use mathlib.Core.Path.{_≡_}
-use lib.ListN.{getD}
+use lib.ListN.{drop}
+use Rattle.std.specs.shelf.Lists.{leading}
+use Rattle.script.specs.Words.{plain}
 use Rattle.script.proofs.fields.plain_len.Given as given
 
 abbrev pub Inv-loop-i : given.InvT-loop-i
-Inv-loop-i l = (k : ℕ) → k < l .i → getD (l .line) k 0 ≡ 35 → ⊥
+Inv-loop-i l = l .i + leading plain (drop (l .i) (l .line)) ≡ leading plain (l .line)
