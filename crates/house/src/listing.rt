@@ -146,7 +146,12 @@ impl<R: MarginRule> House<R> {
     }
 
     /// Enters a series of a product with its multiplier and its settlement price.
-    pub(crate) fn series(&mut self, product: u64, multiplier: u64, price: u64) -> Result<u64, Refusal>
+    pub(crate) fn series(
+        &mut self,
+        product: u64,
+        multiplier: u64,
+        price: u64,
+    ) -> Result<u64, Refusal>
         ensures step { λ r. ⌜ step (closed meaning (now (self .entry))) (SeriesCall product multiplier price) ≡ (entered r, closed meaning (now (self .exit))) ⌝ }
         ensures kept { λ _. ⌜ vec-len (now (self .exit) .placed) ≡ vec-len (now (self .entry) .placed) ⌝ }
     {
@@ -160,7 +165,8 @@ impl<R: MarginRule> House<R> {
         if number >= MAX_SERIES {
             return Err(Refusal::Full);
         }
-        self.market.push_series(new_series(product, multiplier, price));
+        self.market
+            .push_series(new_series(product, multiplier, price));
         Ok(number as u64)
     }
 

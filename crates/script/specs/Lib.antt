@@ -1,3 +1,5 @@
 pub mod Number
 pub mod Words
 pub mod Fields
+pub mod Commands
+pub mod Line

@@ -5,8 +5,10 @@ ghost use lib.ListN.{length};
 ghost use Rattle.std.specs.Options.{mapped};
 ghost use Rattle.std.specs.shelf.Lists.{leading};
 ghost use Rattle.script.specs.Words.{plain, before-comment, words};
-ghost use Rattle.script.specs.Fields.{only, one, two, three};
+ghost use Rattle.script.specs.Fields.{only, one, two, three, one-second, leg-prices, lots-second, trade};
 use crate::number::number;
+use crate::number::second;
+use crate::number::signed;
 use sheet::word::split_word;
 
 /// How many bytes stand before the first `#`.
@@ -30,7 +32,7 @@ pub fn before_comment(line: &[u8]) -> &[u8]
 }
 
 /// The word of a text that has one word.
-fn only(text: &[u8]) -> Option<&[u8]>
+pub fn only(text: &[u8]) -> Option<&[u8]>
     ensures { λ r. ⌜ mapped now r ≡ only (words (now (text .entry))) ⌝ }
 {
     if text.is_empty() {
@@ -65,4 +67,40 @@ pub fn three(text: &[u8]) -> Option<(u64, u64, u64)>
     let first = number(word)?;
     let (second, third) = two(rest)?;
     Some((first, second, third))
+}
+
+/// A number, or a minus alone, and no more words.
+fn one_second(text: &[u8]) -> Option<Option<u64>>
+    ensures { λ r. ⌜ r ≡ one-second (words (now (text .entry))) ⌝ }
+{
+    second(only(text)?)
+}
+
+/// The price of each leg of a fill.
+pub fn leg_prices(text: &[u8]) -> Option<(u64, Option<u64>)>
+    ensures { λ r. ⌜ r ≡ leg-prices (words (now (text .entry))) ⌝ }
+{
+    let (word, rest) = split_word(text);
+    let price = number(word)?;
+    let second = one_second(rest)?;
+    Some((price, second))
+}
+
+fn lots_second(text: &[u8]) -> Option<(i64, Option<u64>)>
+    ensures { λ r. ⌜ r ≡ lots-second (words (now (text .entry))) ⌝ }
+{
+    let (word, rest) = split_word(text);
+    let lots = signed(word)?;
+    let second = one_second(rest)?;
+    Some((lots, second))
+}
+
+/// A series, signed lots and a second series, if any.
+pub fn trade(text: &[u8]) -> Option<(u64, i64, Option<u64>)>
+    ensures { λ r. ⌜ r ≡ trade (words (now (text .entry))) ⌝ }
+{
+    let (word, rest) = split_word(text);
+    let series = number(word)?;
+    let (lots, second) = lots_second(rest)?;
+    Some((series, lots, second))
 }

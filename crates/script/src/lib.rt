@@ -2,3 +2,4 @@
 pub mod command;
 pub mod fields;
 pub mod number;
+pub mod line;
