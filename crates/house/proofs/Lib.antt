@@ -4,3 +4,4 @@ pub mod Keeps
 pub mod Grants
 pub mod Listed
 pub mod Checks
+pub mod Tests

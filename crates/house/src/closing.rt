@@ -15,7 +15,10 @@ ghost use Rattle.book.specs.House.{cash-fits};
 ghost use Rattle.book.specs.Orders.{any-open};
 ghost use Rattle.book.specs.Prices.{price-in-range, settle-prices};
 ghost use Rattle.book.specs.Step.{step};
-ghost use Rattle.house.specs.Closings.{none-open, cash-fits-at, Settleable};
+ghost use Rattle.house.specs.Closings.{none-open, cash-fits-at, Settleable, after-closing, None-placed};
+ghost use Rattle.house.specs.Reply.{done};
+ghost use Rattle.house.specs.View.{trading};
+use crate::house::House;
 use account::listing::all_priced;
 use account::market::Market;
 use account::settle::cash_fits;
@@ -70,5 +73,30 @@ fn settle_all<R: MarginRule>(market: &Market<R>, accounts: &mut [Account])
 {
     for i in 0..accounts.len() {
         accounts[i] = market.settled(&accounts[i]);
+    }
+}
+
+impl<R: MarginRule> House<R> {
+    /// Settles every account at one price for each series, and ends the day.
+    pub(crate) fn closing(&mut self, prices: &[u64]) -> Result<(), Refusal>
+        ensures step { λ r. ⌜ step (trading meaning (now (self .entry))) (Closing (now (prices .entry))) ≡ (done r, after-closing meaning r (now (self .exit))) ⌝ }
+        ensures none { λ r. ⌜ None-placed r (vec-len (now (self .exit) .placed)) ⌝ }
+    {
+        if !none_open(self.accounts.as_slice()) {
+            return Err(Refusal::OrderOpen);
+        }
+        if prices.len() != self.market.series.len() {
+            return Err(Refusal::WrongCount);
+        }
+        if !all_priced(prices) {
+            return Err(Refusal::OutOfRange);
+        }
+        if !all_fit(&self.market, prices, self.accounts.as_slice()) {
+            return Err(Refusal::CashLimit);
+        }
+        self.market.settle(prices);
+        settle_all(&self.market, self.accounts.as_mut_slice());
+        self.placed.clear();
+        Ok(())
     }
 }

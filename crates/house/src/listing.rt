@@ -183,7 +183,7 @@ impl<R: MarginRule> House<R> {
         Ok(number as u64)
     }
 
-    /// Begins a day.
+    /// Begins a day: minute 0, no prints, and each open call a day older.
     pub(crate) fn opening(&mut self)
         requires { ⌜ vec-len (now self .placed) ≡ 0 ⌝ }
         ensures { λ _. ⌜ (Done, trading meaning (now (self .exit))) ≡ step (closed meaning (now (self .entry))) Opening ⌝ }

@@ -1,2 +1,4 @@
 pub mod Signs
 pub mod Splits
+pub mod Lists
+pub mod Glyphs

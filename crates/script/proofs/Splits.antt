@@ -72,3 +72,7 @@ only-one t rest some e none = ap only (words-more t some ∙ ap (λ ws. word t �
 pub only-more : (t rest : List ℕ) → (length t ≡ 0 → ⊥) → rest ≡ after-word t → (length rest ≡ 0 → ⊥) → only (words t) ≡ None
 only-more t rest some e more =
     ap only (words-more t some ∙ ap (λ ws. word t ∷ ws) (words-more (after-word t) (λ z. more (ap length e ∙ z))))
+
+pub after-word-shorter : (t : List ℕ) → (length t ≡ 0 → ⊥) → length (after-word t) < length t
+after-word-shorter [] some = absurd (some refl)
+after-word-shorter (b ∷ bs) some = omega (arith, shorter b bs)

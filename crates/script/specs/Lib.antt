@@ -3,3 +3,4 @@ pub mod Words
 pub mod Fields
 pub mod Commands
 pub mod Line
+pub mod Answers

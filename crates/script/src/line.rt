@@ -3,7 +3,7 @@ ghost use mathlib.Core.Path.{_≡_};
 ghost use Rattle.std.specs.Of.Vec.{vec-items};
 ghost use Rattle.std.specs.Vec.{made};
 ghost use Rattle.script.specs.Words.{words};
-ghost use Rattle.script.specs.Line.{numbers, listed, closing, of-line};
+ghost use Rattle.script.specs.Line.{numbers, listed, closing, of-words, of-line};
 use crate::command::Command;
 use crate::command::call_of;
 use crate::command::is;
@@ -51,12 +51,10 @@ fn closing(text: &[u8], prices: &mut Vec<u64>) -> Result<Reading, AllocError>
     }
 }
 
-/// What a line says. The list then holds the prices of a closing, and is empty after any other line.
-pub fn read(line: &[u8], prices: &mut Vec<u64>) -> Result<Reading, AllocError>
-    ensures { λ r. ⌜ made r (λ x. (x, vec-items (now (prices .exit))) ≡ of-line (now (line .entry))) ⌝ }
+fn of_text(text: &[u8], prices: &mut Vec<u64>) -> Result<Reading, AllocError>
+    ensures { λ r. ⌜ made r (λ x. (x, vec-items (now (prices .exit))) ≡ of-words (words (now (text .entry)))) ⌝ }
 {
     prices.clear();
-    let text = trimmed(before_comment(line));
     if text.is_empty() {
         return Ok(Reading::Empty);
     }
@@ -68,4 +66,11 @@ pub fn read(line: &[u8], prices: &mut Vec<u64>) -> Result<Reading, AllocError>
         Some(command) => Ok(Reading::Command(command)),
         None => Ok(Reading::Unreadable),
     }
+}
+
+/// What a line says. The list then holds the prices of a closing, and is empty after any other line.
+pub fn read(line: &[u8], prices: &mut Vec<u64>) -> Result<Reading, AllocError>
+    ensures { λ r. ⌜ made r (λ x. (x, vec-items (now (prices .exit))) ≡ of-line (now (line .entry))) ⌝ }
+{
+    of_text(trimmed(before_comment(line)), prices)
 }

@@ -1,0 +1,17 @@
+use mathlib.Core.List.{_++_}
+use mathlib.Core.Path.{_≡_}
+use Prim.Native.Nat.{_^_, _<_}
+use lib.ListN.{length, drop}
+use Rattle.std.specs.Written.{decimal}
+use Rattle.script.proofs.Glyphs.{glyphs}
+use Rattle.script.proofs.digits.spelled.Given as given
+
+abbrev pub Inv-loop-start : given.InvT-loop-start
+Inv-loop-start l =
+    (glyphs (l .rest) ++ drop (l .start) (l .digits) ≡ decimal (l .number))
+    × (l .rest < 10 ^ l .start)
+    × (l .start < 20)
+    × (length (l .digits) ≡ 20)
+
+abbrev pub μ-loop-start : given.MeasureT-loop-start
+μ-loop-start l = l .rest
