@@ -5,3 +5,4 @@ pub mod Grants
 pub mod Listed
 pub mod Checks
 pub mod Tests
+pub mod Closes

@@ -57,8 +57,11 @@ fn put_wide(out: &mut Vec<u8>, number: u128) -> Result<(), AllocError>
 pub fn put_signed(out: &mut Vec<u8>, number: i128) -> Result<(), AllocError>
     ensures { λ r. ⌜ made r (λ _. vec-items (now (out .exit)) ≡ vec-items (now (out .entry)) ++ signed number) ⌝ }
 {
+    let size = number.unsigned_abs();
     if number < 0 {
         put(out, b"-")?;
+        put_wide(out, size)
+    } else {
+        put_wide(out, size)
     }
-    put_wide(out, number.unsigned_abs())
 }

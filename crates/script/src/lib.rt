@@ -4,3 +4,4 @@ pub mod fields;
 pub mod number;
 pub mod line;
 pub mod digits;
+pub mod answer;
