@@ -3,3 +3,4 @@ pub mod View
 pub mod Reply
 pub mod Places
 pub mod Closings
+pub mod States

@@ -1,8 +1,11 @@
 //! A house: the calls on products, series and accounts, generic over the margin rule.
 mod accounts;
-pub mod cash;
-pub mod closing;
+mod cash;
+mod closing;
+pub mod day;
 pub mod house;
-pub mod listing;
-pub mod orders;
-pub mod sent;
+mod listing;
+mod orders;
+mod sent;
+pub mod states;
+pub mod ticket;
