@@ -174,3 +174,18 @@ impl<R: MarginRule> Trading<R> {
         }
     }
 }
+
+/// Takes tickets apart.
+fn void(mut tickets: Vec<Ticket>) {
+    while let Some(ticket) = tickets.pop() {
+        let Ticket { house: _, order: _ } = ticket;
+    }
+    tickets.destroy_empty();
+}
+
+impl<R: MarginRule + Drop> Trading<R> {
+    /// Shuts the house down; its tickets end with it.
+    pub fn shut_down(self, tickets: Vec<Ticket>) {
+        void(tickets);
+    }
+}

@@ -3,7 +3,7 @@ mod accounts;
 mod cash;
 mod closing;
 pub mod day;
-pub mod house;
+mod house;
 mod listing;
 mod orders;
 mod sent;

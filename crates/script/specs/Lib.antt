@@ -4,3 +4,4 @@ pub mod Fields
 pub mod Commands
 pub mod Line
 pub mod Answers
+pub mod Worked

@@ -5,3 +5,4 @@ pub mod number;
 pub mod line;
 pub mod digits;
 pub mod answer;
+pub mod worked;

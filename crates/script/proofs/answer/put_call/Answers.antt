@@ -9,20 +9,18 @@ use Rattle.script.proofs.answer.put_call.Needs as need
 
 pub returns-then-call : need.returns-then-call
 returns-then-call c =
-    let m = c .args .call in
     made-weaker (c .put .result) _ _
     (λ _ last.
-    four-more (vec-items (c .args .out .now)) (field (m .amount)) (field (m .credit)) (field (m .age)) (codes " low")
+    four-more (vec-items (c .args .out .now)) (field (c .args .call .amount)) (field (c .args .call .credit)) (field (c .args .call .age)) (codes " low")
     (c .in-Continue-put-field .ensures tt) (c .in-Continue-put-field-2 .ensures tt) (c .in-Continue-put-field-3 .ensures tt) last
     (sym (ap (λ low. cond low (codes " low") (codes " high")) (c .if-call .taken))))
     (c .put .ensures)
 
 pub returns-else-call : need.returns-else-call
 returns-else-call c =
-    let m = c .args .call in
     made-weaker (c .put-else-call .result) _ _
     (λ _ last.
-    four-more (vec-items (c .args .out .now)) (field (m .amount)) (field (m .credit)) (field (m .age)) (codes " high")
+    four-more (vec-items (c .args .out .now)) (field (c .args .call .amount)) (field (c .args .call .credit)) (field (c .args .call .age)) (codes " high")
     (c .in-Continue-put-field .ensures tt) (c .in-Continue-put-field-2 .ensures tt) (c .in-Continue-put-field-3 .ensures tt) last
     (sym (ap (λ low. cond low (codes " low") (codes " high")) (c .if-call .left))))
     (c .put-else-call .ensures)

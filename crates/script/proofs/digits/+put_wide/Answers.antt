@@ -11,9 +11,8 @@ use Rattle.script.proofs.digits.+put_wide.Needs as need
 
 pub returns : need.returns
 returns t c =
-    let n = c .args .number in
     made-weaker (c .put .result) _ _
     (λ _ last.
-    two-more (vec-items (c .args .out .now)) (decimal (n / 10)) ((48 + n % 10) ∷ []) (c .in-Continue-put-wide .ensures tt) last refl refl
-    ∙ ap (λ t. vec-items (c .args .out .now) ++ t) (sym (decimal-wide n (omega arith) (omega arith))))
+    two-more (vec-items (c .args .out .now)) (decimal (c .args .number / 10)) ((48 + c .args .number % 10) ∷ []) (c .in-Continue-put-wide .ensures tt) last refl refl
+    ∙ ap (λ t. vec-items (c .args .out .now) ++ t) (sym (decimal-wide (c .args .number) (omega arith) (omega arith))))
     (c .put .ensures)
