@@ -183,6 +183,13 @@ fn void(mut tickets: Vec<Ticket>) {
     tickets.destroy_empty();
 }
 
+impl<R: MarginRule + Drop> Closed<R> {
+    /// Shuts the house down; its tickets end with it.
+    pub fn shut_down(self, tickets: Vec<Ticket>) {
+        void(tickets);
+    }
+}
+
 impl<R: MarginRule + Drop> Trading<R> {
     /// Shuts the house down; its tickets end with it.
     pub fn shut_down(self, tickets: Vec<Ticket>) {

@@ -42,6 +42,7 @@ fn put_field(out: &mut Vec<u8>, number: u64) -> Result<(), AllocError>
     put_number(out, number)
 }
 
+/// Adds a blank and a signed number.
 fn put_signed_field(out: &mut Vec<u8>, number: i128) -> Result<(), AllocError>
     ensures { λ r. ⌜ made r (λ _. vec-items (now (out .exit)) ≡ vec-items (now (out .entry)) ++ signed-field number) ⌝ }
 {
@@ -67,6 +68,7 @@ pub fn put_refused(out: &mut Vec<u8>, refusal: Refusal) -> Result<(), AllocError
     put(out, b"\n")
 }
 
+/// Adds the three requirements.
 fn put_requirements(out: &mut Vec<u8>, figures: Figures) -> Result<(), AllocError>
     ensures { λ r. ⌜ made r (λ _. vec-items (now (out .exit)) ≡ vec-items (now (out .entry)) ++ requirement-fields figures) ⌝ }
 {
@@ -75,15 +77,21 @@ fn put_requirements(out: &mut Vec<u8>, figures: Figures) -> Result<(), AllocErro
     put_field(out, figures.force)
 }
 
+/// Adds what a margin call holds.
 fn put_call(out: &mut Vec<u8>, call: MarginCall) -> Result<(), AllocError>
     ensures { λ r. ⌜ made r (λ _. vec-items (now (out .exit)) ≡ vec-items (now (out .entry)) ++ call-fields call) ⌝ }
 {
     put_field(out, call.amount)?;
     put_field(out, call.credit)?;
     put_field(out, call.age as u64)?;
-    if call.low { put(out, b" low") } else { put(out, b" high") }
+    if call.low {
+        put(out, b" low")
+    } else {
+        put(out, b" high")
+    }
 }
 
+/// Adds a margin call, or a minus where there is none.
 fn put_any_call(out: &mut Vec<u8>, call: Option<MarginCall>) -> Result<(), AllocError>
     ensures { λ r. ⌜ made r (λ _. vec-items (now (out .exit)) ≡ vec-items (now (out .entry)) ++ any-call-fields call) ⌝ }
 {
@@ -93,6 +101,7 @@ fn put_any_call(out: &mut Vec<u8>, call: Option<MarginCall>) -> Result<(), Alloc
     }
 }
 
+/// Adds the figures of an account, each after a blank.
 fn put_figures_fields(out: &mut Vec<u8>, figures: Figures) -> Result<(), AllocError>
     ensures { λ r. ⌜ made r (λ _. vec-items (now (out .exit)) ≡ vec-items (now (out .entry)) ++ figures-fields figures) ⌝ }
 {

@@ -17,32 +17,76 @@ use sheet::word::split_word;
 /// A call on a house.
 #[derive(Clone, Copy)]
 pub enum Command {
-    House { number: u32, rule: RuleChoice },
-    Product { outright: u64, spread: u64 },
-    Rates { product: u64, outright: u64, spread: u64 },
-    Series { product: u64, multiplier: u64, price: u64 },
+    House {
+        number: u32,
+        rule: RuleChoice,
+    },
+    Product {
+        outright: u64,
+        spread: u64,
+    },
+    Rates {
+        product: u64,
+        outright: u64,
+        spread: u64,
+    },
+    Series {
+        product: u64,
+        multiplier: u64,
+        price: u64,
+    },
     Account,
     Opening,
-    Clock { minute: u64 },
-    Print { series: u64, price: u64 },
-    Deposit { account: u64, amount: u64 },
-    Withdraw { account: u64, amount: u64 },
-    Check { account: u64, series: u64, lots: i64, second: Option<u64> },
-    Send { order: u64 },
-    Drop { order: u64 },
-    Fill { order: u64, price: u64, second: Option<u64> },
-    Cancel { order: u64 },
-    /// Its prices are read into a list of the caller's.
+    Clock {
+        minute: u64,
+    },
+    Print {
+        series: u64,
+        price: u64,
+    },
+    Deposit {
+        account: u64,
+        amount: u64,
+    },
+    Withdraw {
+        account: u64,
+        amount: u64,
+    },
+    Check {
+        account: u64,
+        series: u64,
+        lots: i64,
+        second: Option<u64>,
+    },
+    Send {
+        order: u64,
+    },
+    Drop {
+        order: u64,
+    },
+    Fill {
+        order: u64,
+        price: u64,
+        second: Option<u64>,
+    },
+    Cancel {
+        order: u64,
+    },
+    /// Its prices stand in the list that the line was read with.
     Closing,
-    Figures { account: u64 },
+    Figures {
+        account: u64,
+    },
 }
 
-pub fn is(word: &[u8], text: &[u8]) -> bool
+/// Whether a word is this text.
+pub(crate) fn is(word: &[u8], text: &[u8]) -> bool
     ensures { λ r. ⌜ r ≡ sameBytes (now (word .entry)) (now (text .entry)) ⌝ }
 {
     word == text
 }
 
+/// The margin rule that a word names.
 fn rule_of(word: &[u8]) -> Option<RuleChoice>
     ensures { λ r. ⌜ r ≡ rule-of (now (word .entry)) ⌝ }
 {
@@ -57,6 +101,7 @@ fn rule_of(word: &[u8]) -> Option<RuleChoice>
     }
 }
 
+/// A house number and a margin rule.
 fn house(text: &[u8]) -> Option<Command>
     ensures { λ r. ⌜ r ≡ house (words (now (text .entry))) ⌝ }
 {
@@ -66,22 +111,33 @@ fn house(text: &[u8]) -> Option<Command>
     Some(Command::House { number, rule })
 }
 
+/// An account and the terms of an order.
 fn check(text: &[u8]) -> Option<Command>
     ensures { λ r. ⌜ r ≡ check (words (now (text .entry))) ⌝ }
 {
     let (word, rest) = split_word(text);
     let account = number(word)?;
     let (series, lots, second) = trade(rest)?;
-    Some(Command::Check { account, series, lots, second })
+    Some(Command::Check {
+        account,
+        series,
+        lots,
+        second,
+    })
 }
 
+/// An order and the price of each leg.
 fn fill(text: &[u8]) -> Option<Command>
     ensures { λ r. ⌜ r ≡ fill (words (now (text .entry))) ⌝ }
 {
     let (word, rest) = split_word(text);
     let order = number(word)?;
     let (price, second) = leg_prices(rest)?;
-    Some(Command::Fill { order, price, second })
+    Some(Command::Fill {
+        order,
+        price,
+        second,
+    })
 }
 
 /// A call that takes no words.
@@ -102,10 +158,18 @@ fn set_up_call(name: &[u8], text: &[u8]) -> Option<Command>
         Some(Command::Product { outright, spread })
     } else if is(name, b"rates") {
         let (product, outright, spread) = three(text)?;
-        Some(Command::Rates { product, outright, spread })
+        Some(Command::Rates {
+            product,
+            outright,
+            spread,
+        })
     } else if is(name, b"series") {
         let (product, multiplier, price) = three(text)?;
-        Some(Command::Series { product, multiplier, price })
+        Some(Command::Series {
+            product,
+            multiplier,
+            price,
+        })
     } else if is(name, b"account") {
         alone(Command::Account, text)
     } else if is(name, b"opening") {
@@ -115,7 +179,7 @@ fn set_up_call(name: &[u8], text: &[u8]) -> Option<Command>
     }
 }
 
-/// A call of a day, or one of those above.
+/// A call of a day that is not on an order, or one that sets a house up.
 fn day_call(name: &[u8], text: &[u8]) -> Option<Command>
     ensures { λ r. ⌜ r ≡ day-call (now (name .entry)) (words (now (text .entry))) ⌝ }
 {
@@ -139,8 +203,8 @@ fn day_call(name: &[u8], text: &[u8]) -> Option<Command>
     }
 }
 
-/// The call of a name and the words after it, if it is not the closing of a day.
-pub fn call_of(name: &[u8], text: &[u8]) -> Option<Command>
+/// The call of a name and the words after it. The closing of a day is not among them.
+pub(crate) fn call_of(name: &[u8], text: &[u8]) -> Option<Command>
     ensures { λ r. ⌜ r ≡ call-of (now (name .entry)) (words (now (text .entry))) ⌝ }
 {
     if is(name, b"check") {

@@ -28,7 +28,8 @@ fn spelled(number: u64) -> ([u8; MOST], usize)
     (digits, start)
 }
 
-pub fn put(out: &mut Vec<u8>, text: &[u8]) -> Result<(), AllocError>
+/// Adds a text.
+pub(crate) fn put(out: &mut Vec<u8>, text: &[u8]) -> Result<(), AllocError>
     ensures { λ r. ⌜ made r (λ _. vec-items (now (out .exit)) ≡ vec-items (now (out .entry)) ++ now (text .entry)) ⌝ }
 {
     out.extend_from_slice(text)

@@ -25,14 +25,14 @@ fn plain_len(line: &[u8]) -> usize
 }
 
 /// A line up to the first `#`.
-pub fn before_comment(line: &[u8]) -> &[u8]
+pub(crate) fn before_comment(line: &[u8]) -> &[u8]
     ensures { λ r. ⌜ now r ≡ before-comment (now (line .entry)) ⌝ }
 {
     &line[..plain_len(line)]
 }
 
 /// The word of a text that has one word.
-pub fn only(text: &[u8]) -> Option<&[u8]>
+pub(crate) fn only(text: &[u8]) -> Option<&[u8]>
     ensures { λ r. ⌜ mapped now r ≡ only (words (now (text .entry))) ⌝ }
 {
     if text.is_empty() {
@@ -43,14 +43,14 @@ pub fn only(text: &[u8]) -> Option<&[u8]>
 }
 
 /// The number of a text that has one word.
-pub fn one(text: &[u8]) -> Option<u64>
+pub(crate) fn one(text: &[u8]) -> Option<u64>
     ensures { λ r. ⌜ r ≡ one (words (now (text .entry))) ⌝ }
 {
     number(only(text)?)
 }
 
 /// The numbers of two words and no more.
-pub fn two(text: &[u8]) -> Option<(u64, u64)>
+pub(crate) fn two(text: &[u8]) -> Option<(u64, u64)>
     ensures { λ r. ⌜ r ≡ two (words (now (text .entry))) ⌝ }
 {
     let (word, rest) = split_word(text);
@@ -60,7 +60,7 @@ pub fn two(text: &[u8]) -> Option<(u64, u64)>
 }
 
 /// The numbers of three words and no more.
-pub fn three(text: &[u8]) -> Option<(u64, u64, u64)>
+pub(crate) fn three(text: &[u8]) -> Option<(u64, u64, u64)>
     ensures { λ r. ⌜ r ≡ three (words (now (text .entry))) ⌝ }
 {
     let (word, rest) = split_word(text);
@@ -69,7 +69,7 @@ pub fn three(text: &[u8]) -> Option<(u64, u64, u64)>
     Some((first, second, third))
 }
 
-/// A number, or a minus alone, and no more words.
+/// The second series or price of a text that has one word.
 fn one_second(text: &[u8]) -> Option<Option<u64>>
     ensures { λ r. ⌜ r ≡ one-second (words (now (text .entry))) ⌝ }
 {
@@ -77,7 +77,7 @@ fn one_second(text: &[u8]) -> Option<Option<u64>>
 }
 
 /// The price of each leg of a fill.
-pub fn leg_prices(text: &[u8]) -> Option<(u64, Option<u64>)>
+pub(crate) fn leg_prices(text: &[u8]) -> Option<(u64, Option<u64>)>
     ensures { λ r. ⌜ r ≡ leg-prices (words (now (text .entry))) ⌝ }
 {
     let (word, rest) = split_word(text);
@@ -86,6 +86,7 @@ pub fn leg_prices(text: &[u8]) -> Option<(u64, Option<u64>)>
     Some((price, second))
 }
 
+/// Signed lots and a second series, if any.
 fn lots_second(text: &[u8]) -> Option<(i64, Option<u64>)>
     ensures { λ r. ⌜ r ≡ lots-second (words (now (text .entry))) ⌝ }
 {
@@ -96,7 +97,7 @@ fn lots_second(text: &[u8]) -> Option<(i64, Option<u64>)>
 }
 
 /// A series, signed lots and a second series, if any.
-pub fn trade(text: &[u8]) -> Option<(u64, i64, Option<u64>)>
+pub(crate) fn trade(text: &[u8]) -> Option<(u64, i64, Option<u64>)>
     ensures { λ r. ⌜ r ≡ trade (words (now (text .entry))) ⌝ }
 {
     let (word, rest) = split_word(text);

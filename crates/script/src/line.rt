@@ -18,7 +18,7 @@ use std::alloc::AllocError;
 pub enum Reading {
     /// It has no word.
     Empty,
-    /// It names no call, or its words are not those of its call.
+    /// It names no call, or the words after the name are not those of its call.
     Unreadable,
     Command(Command),
 }
@@ -40,6 +40,7 @@ fn read_numbers(text: &[u8], prices: &mut Vec<u64>) -> Result<bool, AllocError>
     Ok(true)
 }
 
+/// The closing of a day at the prices that the words say.
 fn closing(text: &[u8], prices: &mut Vec<u64>) -> Result<Reading, AllocError>
     ensures { λ r. ⌜ made r (λ x. (x, vec-items (now (prices .exit))) ≡ closing (words (now (text .entry)))) ⌝ }
 {
@@ -51,6 +52,7 @@ fn closing(text: &[u8], prices: &mut Vec<u64>) -> Result<Reading, AllocError>
     }
 }
 
+/// What the words of a text say.
 fn of_text(text: &[u8], prices: &mut Vec<u64>) -> Result<Reading, AllocError>
     ensures { λ r. ⌜ made r (λ x. (x, vec-items (now (prices .exit))) ≡ of-words (words (now (text .entry)))) ⌝ }
 {

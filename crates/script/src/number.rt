@@ -15,20 +15,34 @@ pub fn small(word: &[u8]) -> Option<u32>
     ensures { λ r. ⌜ r ≡ small (now (word .entry)) ⌝ }
 {
     let n = number(word)?;
-    if n <= u32::MAX as u64 { Some(n as u32) } else { None }
+    if n <= u32::MAX as u64 {
+        Some(n as u32)
+    } else {
+        None
+    }
 }
 
+/// The number itself, where it fits.
 fn from_plus(n: u64) -> Option<i64>
     ensures { λ r. ⌜ r ≡ from-plus n ⌝ }
 {
-    if n <= i64::MAX as u64 { Some(n as i64) } else { None }
+    if n <= i64::MAX as u64 {
+        Some(n as i64)
+    } else {
+        None
+    }
 }
 
+/// The number below 0, where it fits.
 fn from_minus(n: u64) -> Option<i64>
     ensures { λ r. ⌜ r ≡ from-minus n ⌝ }
 {
     let below = -(n as i128);
-    if below >= i64::MIN as i128 { Some(below as i64) } else { None }
+    if below >= i64::MIN as i128 {
+        Some(below as i64)
+    } else {
+        None
+    }
 }
 
 /// A signed number of 64 bits: digits, or a minus and digits.

@@ -17,8 +17,8 @@ loop-rest-again c =
     let some : 0 < s = room n s (omega arith) (c .loop-rest .inv .1) in
     let up : s - 1 + 1 ≡ s = omega arith in (
       digit-before n (s - 1) _ (c .loop-rest .digits) (omega arith) (omega (arith, c .loop-rest .inv .3)) refl
-      ∙ ap (λ k. glyphs n ++ drop k (c .loop-rest .digits)) up
-      ∙ c .loop-rest .inv .0,
+          ∙ ap (λ k. glyphs n ++ drop k (c .loop-rest .digits)) up
+          ∙ c .loop-rest .inv .0,
       less-room n s (omega arith) (c .loop-rest .inv .1),
       omega arith,
       search needs,
