@@ -15,14 +15,16 @@ satang that is free and one more, equity equal to a level and one satang less, a
 """
 
 import os
+import sys
+
+# This file must not stand in for the library's `random`, which other modules load too.
+HERE = os.path.dirname(os.path.abspath(__file__))
+sys.path = [folder for folder in sys.path if os.path.abspath(folder or ".") != HERE]
+
+import random
 import re
 import subprocess
-import sys
 import tempfile
-
-# This file's own name must not stand in for the module `random`.
-sys.path = [folder for folder in sys.path if os.path.abspath(folder or ".") != os.path.dirname(os.path.abspath(__file__))]
-import random
 
 U64 = 2**64 - 1
 PRICE = 10_000_000
@@ -620,8 +622,11 @@ class Script:
                 self.withdrawal()
             elif kind < 0.56:
                 self.check()
-            elif kind < 0.78 and m.orders:
-                self.advance(r.choice(sorted(m.orders)), 0.85)
+            elif kind < 0.78:
+                if m.orders:
+                    self.advance(r.choice(sorted(m.orders)), 0.85)
+                else:
+                    self.check()
             elif kind < 0.81:
                 name = r.choice(["send", "drop", "cancel", "fill"])
                 number = r.choice([self.order_number(), *m.orders])
@@ -1067,7 +1072,7 @@ def statistics(arguments):
     with tempfile.TemporaryDirectory() as folder:
         if engine is None:
             engine = os.path.join(folder, "engine")
-            source = os.path.join(os.path.dirname(os.path.abspath(__file__)), "../../bench/engine.rs")
+            source = os.path.join(HERE, "../../bench/engine.rs")
             subprocess.run(["rustc", "-O", "-o", engine, source], check=True)
         random_scripts = [Script(seed, lines).write() for seed in range(1, count + 1)]
         table(engine, f"{count} random scripts of {lines} lines", random_scripts)
@@ -1132,4 +1137,5 @@ def main(arguments):
     sys.stdout.buffer.write(text)
 
 
-main(sys.argv[1:])
+if __name__ == "__main__":
+    main(sys.argv[1:])
