@@ -5,6 +5,7 @@ ghost use Rattle.book.specs.TradingCalls.{figures-of};
 ghost use Rattle.account.specs.Bounds.{Sound};
 ghost use Rattle.account.specs.View.{the-market};
 use crate::market::Market;
+use crate::orders::left_of;
 use book::account::Account;
 use book::account::Figures;
 use book::account::Position;
@@ -18,12 +19,14 @@ impl<R: MarginRule> Market<R> {
     {
         let positions: &[Position] = &account.positions;
         let (initial, maintenance, force) = self.requirements(positions);
+        let equity = self.equity(account);
+        let free = left_of(equity, initial, self.needs(account));
         Figures {
-            equity: self.equity(account),
+            equity,
             initial,
             maintenance,
             force,
-            free: self.free(account),
+            free,
             call: account.call,
         }
     }

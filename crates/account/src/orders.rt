@@ -57,7 +57,7 @@ pub fn fill_trade(positions: &mut [Position], trade: Trade, price: u32, second_p
 }
 
 /// What is left of an equity balance.
-fn left_of(equity: i128, initial: u64, needs: u64) -> i128
+pub(crate) fn left_of(equity: i128, initial: u64, needs: u64) -> i128
     requires { ⌜ natAbs equity ≤ 2 ^ 103 ⌝ }
     ensures value { λ r. ⌜ r ≡ equity -ℤ pos initial -ℤ pos needs ⌝ }
     ensures size { λ r. ⌜ natAbs r ≤ 2 ^ 104 ⌝ }
@@ -152,7 +152,7 @@ impl<R: MarginRule> Market<R> {
     }
 
     /// The needs of all open orders.
-    fn needs(&self, account: &Account) -> u64
+    pub(crate) fn needs(&self, account: &Account) -> u64
         requires { ⌜ Sound (vec-len (now self .series)) (now account) ⌝ }
         ensures value { λ r. ⌜ r ≡ needs (the-market meaning (now (self .entry))) (now (account .entry)) (now (account .entry) .orders) ⌝ }
         ensures size { λ r. ⌜ r ≤ 2 ^ 52 ⌝ }

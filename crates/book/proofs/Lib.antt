@@ -1,6 +1,2 @@
-pub mod CasesCalls
-pub mod CasesForced
-pub mod CasesUnits
-pub mod CasesRefusals
-pub mod CasesOrders
+pub mod CasesOpen
 pub mod Cases

@@ -2,20 +2,18 @@
 use mathlib.Core.Path.{_≡_}
 use mathlib.Core.Bool.{true, false}
 use mathlib.Core.List.{List, [], _∷_, _++_}
-use Prim.Native.Nat.{ℕ}
 use lib.IntN.{ℤ, pos, negsuc, _+ℤ_, _-ℤ_, _*ℤ_}
 use lib.ListN.{getD}
 use Rattle.std.specs.declared.option.Option.{Option}
-use Rattle.std.specs.declared.option.Option.the-variants.{None}
+use Rattle.std.specs.declared.option.Option.the-variants.{Some, None}
 use Rattle.rules.specs.declared.rule.RuleChoice.{RuleChoice}
 use Rattle.book.specs.declared.account.MarginCall.{MarginCall}
 use Rattle.book.specs.Answer.{Answer, Done, Entered, Ordered, Told}
 use Rattle.book.specs.Call as C
 use Rattle.book.specs.Call.{Call}
 use Rattle.book.specs.Market.{flat}
-use Rattle.book.specs.House.{account-at}
 use Rattle.book.specs.Step.{answers}
-use Rattle.book.specs.WorkedRuns.{Granted, No, _gets_, Runs, house-after, answer-after, account-after, call-after, equity-after, open-call, traded, first-opening, first-day, second-day, with-call, with-low-call}
+use Rattle.book.specs.WorkedRuns.{No, _gets_, Runs, house-after, answer-after, account-after, call-after, equity-after, open-call, traded, first-opening, first-day, second-day, with-call, with-low-call}
 
 -- The figures of two lots long: IMR 1,710,000, MMR 1,197,000 and FMR 513,000.
 abbrev pub two-lots : ℤ → ℤ → Option MarginCall → Answer
@@ -77,6 +75,7 @@ pub record Worked-next-day (rule : RuleChoice) : Type 0 where
   -- the call ends when deposits reach its amount, and not one satang before
   pub one-satang-short : call-after rule (with-call (C.Deposit 0 589_999 ∷ [])) ≡ open-call 590_000 589_999 1 false
   pub deposits-reach : call-after rule (with-call (C.Deposit 0 589_999 ∷ C.Deposit 0 1 ∷ [])) ≡ None
+  pub deposits-add : call-after rule (with-call (C.Deposit 0 100_000 ∷ C.Deposit 0 200_000 ∷ [])) ≡ open-call 590_000 300_000 1 false
   -- a deposit beyond what the call lacks ends it, and the rest counts towards no later call
   pub deposit-beyond : call-after rule (with-call (C.Deposit 0 700_000 ∷ [])) ≡ None
   pub none-kept : call-after rule (with-call (C.Deposit 0 700_000 ∷ C.Closing (79_200 ∷ []) ∷ [])) ≡ open-call 530_000 0 0 false
@@ -84,8 +83,11 @@ pub record Worked-next-day (rule : RuleChoice) : Type 0 where
   pub print-falls : figures-after rule (with-call (C.Print 0 81_000 ∷ []))
       ≡ two-lots (pos 1_200_000) (negsuc 509_999) (open-call 590_000 0 1 false)
   pub equity-agrees : equity-after rule (with-call (C.Print 0 81_000 ∷ [])) ≡ from-deposit-and-fill
-  -- the last print of a day counts, and none of an earlier day
+  -- the last print of a day counts until the day is closed
   pub last-print : equity-after rule (with-call (C.Print 0 85_000 ∷ C.Print 0 81_000 ∷ [])) ≡ pos 1_200_000
+  pub print-and-settlement : house-after rule (with-call (C.Print 0 85_000 ∷ [])) .market .series
+      ≡ record { product = 0; multiplier = 200; quote = record { settlement = 80_800; last = Some 85_000 } } ∷ []
+  pub settled-despite-print : account-after rule (with-call (C.Print 0 85_000 ∷ C.Closing (80_800 ∷ []) ∷ [])) .cash ≡ pos 1_120_000
   pub no-print-today : equity-after rule (with-call (C.Print 0 85_000 ∷ C.Closing (80_800 ∷ []) ∷ C.Opening ∷ [])) ≡ pos 1_120_000
   -- new rates act at once, release no margin and leave the call as it is
   pub new-rates : figures-after rule (first-day 2_000_000 80_800 ++ C.Rates 0 400_000 112_500 ∷ [])
@@ -97,6 +99,9 @@ pub record Worked-next-day (rule : RuleChoice) : Type 0 where
         free = negsuc 399_999;
         call = open-call 590_000 0 0 false;
       })
+
+-- Fills under an open call.
+pub record Worked-release (rule : RuleChoice) : Type 0 where
   -- a lot sold releases 855,000, which ends the call of 590,000 and stays below the low one of 1,230,000; two lots end that too
   pub sale-ends : call-after rule (with-call (traded 1 0 (negsuc 0) 79_000)) ≡ None
   pub sale-credits : call-after rule (with-low-call (traded 1 0 (negsuc 0) 79_000)) ≡ open-call 1_230_000 855_000 1 true
@@ -111,8 +116,9 @@ pub record Worked-later-closings (rule : RuleChoice) : Type 0 where
   -- an open call keeps amount, credit and age at a closing, whatever equity is
   pub kept : call-after rule (with-call (C.Deposit 0 100_000 ∷ C.Closing (80_800 ∷ []) ∷ [])) ≡ open-call 590_000 100_000 1 false
   pub kept-at-high-equity : call-after rule (with-call (C.Closing (90_000 ∷ []) ∷ [])) ≡ open-call 590_000 0 1 false
-  -- its age is 2 from the second opening on
-  pub second-opening : call-after rule (with-call (C.Closing (80_800 ∷ []) ∷ C.Opening ∷ [])) ≡ open-call 590_000 0 2 false
+  -- its age is 2 from the second opening on, and nothing else changes at an opening
+  pub second-opening : call-after rule (with-call (C.Deposit 0 100_000 ∷ C.Closing (80_800 ∷ []) ∷ C.Opening ∷ []))
+      ≡ open-call 590_000 100_000 2 false
   pub third-opening : call-after rule (with-call (C.Closing (80_800 ∷ []) ∷ C.Opening ∷ C.Closing (80_800 ∷ []) ∷ C.Opening ∷ []))
       ≡ open-call 590_000 0 2 false
   -- it becomes low where equity is below FMR, and not where equity is equal to it

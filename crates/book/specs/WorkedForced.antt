@@ -3,7 +3,7 @@ use mathlib.Core.Path.{_≡_}
 use mathlib.Core.Bool.{true, false}
 use mathlib.Core.List.{List, [], _∷_, _++_}
 use Prim.Native.Nat.{ℕ}
-use lib.IntN.{ℤ, pos, negsuc}
+use lib.IntN.{pos, negsuc}
 use Rattle.std.specs.declared.option.Option.the-variants.{Some, None}
 use Rattle.rules.specs.declared.rule.RuleChoice.{RuleChoice}
 use Rattle.rules.specs.declared.rule.RuleChoice.the-variants.{Pairs}

@@ -2,15 +2,17 @@
 use mathlib.Core.Path.{_≡_}
 use mathlib.Core.List.{List, [], _∷_, _++_}
 use Prim.Native.Nat.{ℕ}
-use lib.IntN.{ℤ, pos, negsuc}
+use lib.IntN.{pos, negsuc}
 use lib.ListN.{take, replicate}
 use Rattle.std.specs.declared.option.Option.the-variants.{Some, None}
 use Rattle.rules.specs.declared.rule.RuleChoice.{RuleChoice}
 use Rattle.rules.specs.declared.rule.RuleChoice.the-variants.{Gross, LargerSide, Pairs}
+use Rattle.book.specs.declared.account.Account.{Account}
 use Rattle.book.specs.declared.refusal.Refusal.the-variants.{OrderOpen, OrderNumbersUsed}
 use Rattle.book.specs.Answer.{Ordered, Refused, Done}
 use Rattle.book.specs.Call as C
 use Rattle.book.specs.Call.{Call}
+use Rattle.book.specs.Market.{flat}
 use Rattle.book.specs.House.{State, Trading, with-phase}
 use Rattle.book.specs.Step.{answers}
 use Rattle.book.specs.WorkedRuns.{Granted, No, _gets_, Runs, house-number, house-after, answer-after, account-after, free-after, traded, first-opening, second-day, with-call}
@@ -116,6 +118,10 @@ one-held = three-series ++ C.Deposit 0 10_000_000 ∷ C.Check 0 0 (pos 1) None �
 abbrev pub pair-sent : List Call
 pair-sent = three-series ++ C.Deposit 0 10_000_000 ∷ C.Check 0 0 (pos 1) (Some 1) ∷ C.Send house-number 1 ∷ []
 
+-- An account with nothing but 10,000,000.
+abbrev pub cash-only : Account
+cash-only = record { cash = pos 10_000_000; positions = replicate 24 flat; orders = replicate 8 None; call = None }
+
 pub record Worked-orders (rule : RuleChoice) : Type 0 where
   -- a ticket is of this house and of a held order, and is spent once; only a sent order fills, once
   pub one-order : Runs (house-after rule one-held)
@@ -155,11 +161,28 @@ pub record Worked-orders (rule : RuleChoice) : Type 0 where
       (C.Drop house-number 1 gets Granted ∷ C.Drop house-number 1 gets No 12 ∷ C.Send house-number 1 gets No 12 ∷ [])
   pub cancelled : Runs (house-after rule pair-sent)
       (C.Cancel 1 gets Granted ∷ C.Cancel 1 gets No 12 ∷ C.Fill 1 83_000 (Some 83_000) gets No 12 ∷ [])
-  -- and leaves its account as it was
-  pub dropped-leaves : account-after rule (one-held ++ C.Drop house-number 1 ∷ [])
-      ≡ account-after rule (three-series ++ C.Deposit 0 10_000_000 ∷ [])
-  pub cancelled-leaves : account-after rule (pair-sent ++ C.Cancel 1 ∷ [])
-      ≡ account-after rule (three-series ++ C.Deposit 0 10_000_000 ∷ [])
+  -- and so has its number, although the account has another order in the product
+  pub earlier-number : Runs (house-after rule one-held)
+      (C.Drop house-number 1 gets Granted
+      ∷ C.Check 0 0 (pos 1) None gets Granted
+      ∷ C.Send house-number 1 gets No 12
+      ∷ C.Send house-number 2 gets Granted
+      ∷ C.Fill 1 83_000 None gets No 12
+      ∷ C.Cancel 1 gets No 12
+      ∷ C.Fill 2 83_000 None gets Granted
+      ∷ [])
+  -- an order stands whatever else happens in the day
+  pub over-time : Runs (house-after rule one-held)
+      (C.Clock 600 gets Granted
+      ∷ C.Print 0 85_000 gets Granted
+      ∷ C.Deposit 0 1 gets Granted
+      ∷ C.Send house-number 1 gets Granted
+      ∷ C.Clock 700 gets Granted
+      ∷ C.Fill 1 83_000 None gets Granted
+      ∷ [])
+  -- a dropped or cancelled order leaves its account as it was
+  pub dropped-leaves : account-after rule (one-held ++ C.Drop house-number 1 ∷ []) ≡ cash-only
+  pub cancelled-leaves : account-after rule (pair-sent ++ C.Cancel 1 ∷ []) ≡ cash-only
   -- order numbers count all orders of the day, over all accounts
   pub counted : answers (house-after rule one-held)
       (C.Deposit 1 10_000_000 ∷ C.Check 1 0 (pos 1) None ∷ C.Drop house-number 1 ∷ C.Check 0 0 (pos 1) None ∷ [])
@@ -167,6 +190,12 @@ pub record Worked-orders (rule : RuleChoice) : Type 0 where
   -- and begin again each day, on which no order of an earlier day is known
   pub new-day : Runs (house-after rule (second-day 2_077_000 80_800)) (C.Fill 1 83_000 None gets No 12 ∷ C.Cancel 1 gets No 12 ∷ [])
   pub counted-afresh : answer-after rule (second-day 2_077_000 80_800) (C.Check 0 0 (negsuc 0) None) ≡ Ordered 1
+
+-- Two products of different risk margins with a series each, and an account with 2,000,000.
+abbrev pub two-margins : List Call
+two-margins =
+    C.Product 450_000 112_500 ∷ C.Product 100_000 50_000 ∷ C.Series 0 200 83_000 ∷ C.Series 1 10 50_000 ∷ C.Account ∷ C.Opening
+    ∷ C.Deposit 0 2_000_000 ∷ []
 
 -- Account 0 has 1,710,000, what two lots need, and an order for one lot of the first product.
 abbrev pub one-needed : List Call
@@ -187,3 +216,8 @@ pub record Worked-needs (rule : RuleChoice) : Type 0 where
   pub next-withdrawal : Runs (house-after rule one-needed) (C.Withdrawal 0 855_001 gets No 10 ∷ C.Withdrawal 0 855_000 gets Granted ∷ [])
   -- an order that lowers IMR needs nothing
   pub no-need : free-after rule (second-day 2_077_000 80_800 ++ C.Check 0 0 (negsuc 0) None ∷ []) ≡ negsuc 512_999
+  -- each product has its own risk margins, and new rates are of one product
+  pub first-product : free-after rule (two-margins ++ C.Check 0 0 (pos 1) None ∷ []) ≡ pos 1_145_000
+  pub second-product : free-after rule (two-margins ++ C.Check 0 1 (pos 1) None ∷ []) ≡ pos 1_810_000
+  pub new-rates : free-after rule (two-margins ++ traded 1 0 (pos 1) 83_000 ++ traded 2 1 (pos 1) 50_000 ++ C.Closing (83_000 ∷ 50_000 ∷ []) ∷ C.Rates 1 200_000 50_000 ∷ [])
+      ≡ pos 765_000

@@ -11,7 +11,7 @@ use Rattle.book.specs.declared.account.Account.{Account}
 use Rattle.book.specs.declared.account.Position.{Position}
 use Rattle.book.specs.declared.account.Stage.the-variants.{Held}
 use Rattle.book.specs.declared.refusal.Refusal.the-variants.{Full}
-use Rattle.book.specs.Answer.{Answer, Entered, Refused}
+use Rattle.book.specs.Answer.{Entered, Refused}
 use Rattle.book.specs.Call as C
 use Rattle.book.specs.Call.{Call}
 use Rattle.book.specs.Market.{flat}
@@ -147,12 +147,14 @@ pub record Worked-money (rule : RuleChoice) : Type 0 where
       ∷ C.Figures 1 gets No 1
       ∷ [])
 
--- A second account that has an order, held with number 1, on the first day.
+-- A second account that has an order in a second product, held with number 1, on the first day.
 abbrev pub other-order : List Call
-other-order = C.Product 450_000 112_500 ∷ C.Series 0 200 83_000 ∷ C.Account ∷ C.Account ∷ C.Opening ∷ C.Deposit 1 855_000 ∷ C.Check 1 0 (pos 1) None ∷ []
+other-order =
+    C.Product 450_000 112_500 ∷ C.Product 450_000 112_500 ∷ C.Series 1 200 83_000 ∷ C.Account ∷ C.Account ∷ C.Opening
+    ∷ C.Deposit 1 855_000 ∷ C.Check 1 0 (pos 1) None ∷ []
 
 pub record Worked-ending-a-day (rule : RuleChoice) : Type 0 where
-  -- an open order of any account, held or sent, comes first
+  -- an open order of any account in any product, held or sent, comes first
   pub order-open : Runs (house-after rule other-order)
       (C.Closing [] gets No 7
       ∷ C.Closing (83_000 ∷ []) gets No 7
@@ -171,9 +173,13 @@ pub record Worked-ending-a-day (rule : RuleChoice) : Type 0 where
       ∷ C.Closing (83_002 ∷ []) gets No 11
       ∷ C.Closing (83_001 ∷ []) gets Granted
       ∷ [])
+  pub closing-above : Runs (cash-house rule (pos 99_999_999_999_999_801) one-lot)
+      (C.Closing (83_001 ∷ []) gets No 11 ∷ C.Closing (83_000 ∷ []) gets Granted ∷ [])
   -- and exactly −10^17
   pub closing-below : Runs (cash-house rule (negsuc 99_999_999_999_999_799) one-lot)
       (C.Closing (82_998 ∷ []) gets No 11 ∷ C.Closing (82_999 ∷ []) gets Granted ∷ [])
+  pub closing-further-below : Runs (cash-house rule (negsuc 99_999_999_999_999_800) one-lot)
+      (C.Closing (82_999 ∷ []) gets No 11 ∷ C.Closing (83_000 ∷ []) gets Granted ∷ [])
   -- of every account
   pub closing-other : Runs (given 1 (pos 99_999_999_999_999_800) one-lot (house-after rule (other-order ++ C.Drop house-number 1 ∷ [])))
       (C.Closing (83_002 ∷ []) gets No 11 ∷ C.Closing (83_001 ∷ []) gets Granted ∷ [])
@@ -202,8 +208,13 @@ pub record Worked-forced-refusals (rule : RuleChoice) : Type 0 where
       ∷ C.ForcedList 0 (2 ∷ []) 1 gets Granted
       ∷ [])
   -- an order of another account does not count
-  pub other-account : Runs (house-after rule (first-day 2_000_000 80_800 ++ C.Account ∷ C.Opening ∷ C.Deposit 1 855_000 ∷ C.Check 1 0 (pos 1) None ∷ C.Clock 955 ∷ []))
-      (C.ForcedList 0 (2 ∷ []) 1 gets Granted ∷ C.ForcedList 1 (2 ∷ []) 1 gets No 7 ∷ [])
+  pub other-account : Runs (house-after rule (first-day 2_000_000 80_800 ++ C.Account ∷ C.Opening ∷ []))
+      (C.Deposit 1 855_000 gets Granted
+      ∷ C.Check 1 0 (pos 1) None gets Granted
+      ∷ C.Clock 955 gets Granted
+      ∷ C.ForcedList 0 (2 ∷ []) 1 gets Granted
+      ∷ C.ForcedList 1 (2 ∷ []) 1 gets No 7
+      ∷ [])
 
 -- Refused calls on the day after a call, with an order of number 1 held.
 abbrev pub refused-calls : List Judged

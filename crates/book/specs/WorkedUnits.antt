@@ -5,18 +5,17 @@ use mathlib.Core.List.{List, [], _∷_, _++_, map}
 use Prim.Native.Nat.{ℕ, _-_}
 use lib.IntN.{ℤ, pos, negsuc, _+ℤ_, _*ℤ_}
 use lib.ListN.{length, replicate}
-use Rattle.std.specs.declared.option.Option.{Option}
 use Rattle.std.specs.declared.option.Option.the-variants.{None}
 use Rattle.rules.specs.declared.rule.RuleChoice.{RuleChoice}
 use Rattle.rules.specs.Rules.{chosen}
 use Rattle.rules.specs.Worked.{set50}
 use Rattle.book.specs.declared.account.Position.{Position}
-use Rattle.book.specs.declared.account.Trade.{Trade}
 use Rattle.book.specs.declared.market.Series.{Series}
 use Rattle.book.specs.Answer.{Answer, Listed}
 use Rattle.book.specs.Call as C
 use Rattle.book.specs.Prices.{settled}
 use Rattle.book.specs.Market.{flat}
+use Rattle.book.specs.ForcedList.{lines}
 use Rattle.book.specs.House.{State, Trading}
 use Rattle.book.specs.Step.{step}
 use Rattle.book.specs.WorkedRuns.{open-call, house-number, alone, paired}
@@ -92,6 +91,8 @@ pub record Worked-choice (rule : RuleChoice) : Type 0 where
   -- the sides are those of one product
   pub two-products : whole-list rule (stake 0 (pos 1) (pos 100) 1 ∷ stake 1 (negsuc 0) (pos 200) 1 ∷ [])
       ≡ Listed (alone 1 (pos 1) ∷ alone 0 (negsuc 0) ∷ [])
+  pub second-of-product : whole-list rule (stake 0 (pos 1) (pos 300) 1 ∷ stake 0 (negsuc 0) (pos 100) 1 ∷ stake 1 (negsuc 0) (pos 200) 1 ∷ [])
+      ≡ Listed (paired 0 (negsuc 0) 1 ∷ alone 2 (pos 1) ∷ [])
   -- lots that the market does not take count on their side
   pub untaken-lots : whole-list rule (stake 0 (pos 2) (pos 100) 2 ∷ stake 0 (negsuc 0) (pos 200) 0 ∷ [])
       ≡ Listed (alone 0 (negsuc 0) ∷ [])
@@ -103,6 +104,7 @@ pub record Worked-lines (rule : RuleChoice) : Type 0 where
   -- neighbouring units of one series join, and another first series begins a line
   pub joined : whole-list rule (stake 0 (pos 3) (pos 200) 3 ∷ stake 0 (pos 2) (pos 100) 2 ∷ [])
       ≡ Listed (alone 0 (negsuc 2) ∷ alone 1 (negsuc 1) ∷ [])
+  pub many-lots : whole-list rule (stake 0 (pos 30) (pos 100) 30 ∷ []) ≡ Listed (alone 0 (negsuc 29) ∷ [])
   -- units with the same second series join, and a second series begins a line
   pub pairs-joined : whole-list rule (stake 0 (pos 4) (pos 200) 4 ∷ stake 0 (negsuc 1) (pos 100) 2 ∷ [])
       ≡ Listed (alone 0 (negsuc 1) ∷ paired 0 (negsuc 1) 1 ∷ [])
@@ -121,3 +123,15 @@ pub record Worked-lines (rule : RuleChoice) : Type 0 where
   -- the same, where the market takes no lot of the first series
   pub three-series-none : whole-list rule (stake 0 (pos 3) (pos 100) 0 ∷ stake 0 (pos 1) (pos 400) 5 ∷ stake 0 (negsuc 1) (pos 200) 5 ∷ [])
       ≡ Listed (alone 1 (negsuc 0) ∷ [])
+
+-- Which units form a line.
+pub record Worked-joining : Type 0 where
+  pub alone-joined : lines (alone 0 (negsuc 0) ∷ alone 0 (negsuc 0) ∷ []) ≡ alone 0 (negsuc 1) ∷ []
+  pub paired-joined : lines (paired 0 (pos 1) 1 ∷ paired 0 (pos 1) 1 ∷ []) ≡ paired 0 (pos 2) 1 ∷ []
+  -- not where the first or the second series differs, or one unit has no second
+  pub other-first : lines (alone 0 (negsuc 0) ∷ alone 1 (negsuc 0) ∷ []) ≡ alone 0 (negsuc 0) ∷ alone 1 (negsuc 0) ∷ []
+  pub other-second : lines (paired 0 (pos 1) 1 ∷ paired 0 (pos 1) 2 ∷ []) ≡ paired 0 (pos 1) 1 ∷ paired 0 (pos 1) 2 ∷ []
+  pub then-second : lines (alone 0 (pos 1) ∷ paired 0 (pos 1) 1 ∷ []) ≡ alone 0 (pos 1) ∷ paired 0 (pos 1) 1 ∷ []
+  pub then-alone : lines (paired 0 (pos 1) 1 ∷ alone 0 (pos 1) ∷ []) ≡ paired 0 (pos 1) 1 ∷ alone 0 (pos 1) ∷ []
+  -- nor where another unit stands between them
+  pub between : lines (alone 0 (pos 1) ∷ alone 1 (pos 1) ∷ alone 0 (pos 1) ∷ []) ≡ alone 0 (pos 1) ∷ alone 1 (pos 1) ∷ alone 0 (pos 1) ∷ []

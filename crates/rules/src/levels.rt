@@ -35,7 +35,7 @@ fn percent_of(risk: u32, rate: u32) -> u32
     requires { ⌜ InRange risk ⌝ ∗ ⌜ rate ≤ 190 ⌝ }
     ensures { λ r. ⌜ r ≡ percent rate risk ⌝ }
 {
-    (risk as u64 * rate as u64).div_ceil(100) as u32
+    ((risk as u64 * rate as u64 + 99) / 100) as u32
 }
 
 impl Levels {

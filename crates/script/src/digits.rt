@@ -36,7 +36,7 @@ pub(crate) fn put(out: &mut Vec<u8>, text: &[u8]) -> Result<(), AllocError>
 }
 
 /// Adds a number of 64 bits.
-pub fn put_number(out: &mut Vec<u8>, number: u64) -> Result<(), AllocError>
+pub(crate) fn put_number(out: &mut Vec<u8>, number: u64) -> Result<(), AllocError>
     ensures { λ r. ⌜ made r (λ _. vec-items (now (out .exit)) ≡ vec-items (now (out .entry)) ++ decimal number) ⌝ }
 {
     let (digits, start) = spelled(number);
@@ -55,7 +55,7 @@ fn put_wide(out: &mut Vec<u8>, number: u128) -> Result<(), AllocError>
 }
 
 /// Adds a signed number, with a minus in front if it is below 0.
-pub fn put_signed(out: &mut Vec<u8>, number: i128) -> Result<(), AllocError>
+pub(crate) fn put_signed(out: &mut Vec<u8>, number: i128) -> Result<(), AllocError>
     ensures { λ r. ⌜ made r (λ _. vec-items (now (out .exit)) ≡ vec-items (now (out .entry)) ++ signed number) ⌝ }
 {
     let size = number.unsigned_abs();

@@ -1,8 +1,8 @@
 //! How a line of a script names a call on a house, and how an answer is printed.
 pub mod answer;
 pub mod command;
-pub mod digits;
-pub mod fields;
+mod digits;
+mod fields;
 pub mod line;
-pub mod number;
+mod number;
 pub mod worked;

@@ -4,14 +4,14 @@ ghost use Rattle.script.specs.Number.{number, small, from-plus, from-minus, si
 use sheet::number::decimal;
 
 /// An unsigned number of 64 bits.
-pub fn number(word: &[u8]) -> Option<u64>
+pub(crate) fn number(word: &[u8]) -> Option<u64>
     ensures { λ r. ⌜ r ≡ number (now (word .entry)) ⌝ }
 {
     decimal(word).ok()
 }
 
 /// An unsigned number of 32 bits.
-pub fn small(word: &[u8]) -> Option<u32>
+pub(crate) fn small(word: &[u8]) -> Option<u32>
     ensures { λ r. ⌜ r ≡ small (now (word .entry)) ⌝ }
 {
     let n = number(word)?;
@@ -46,7 +46,7 @@ fn from_minus(n: u64) -> Option<i64>
 }
 
 /// A signed number of 64 bits: digits, or a minus and digits.
-pub fn signed(word: &[u8]) -> Option<i64>
+pub(crate) fn signed(word: &[u8]) -> Option<i64>
     ensures { λ r. ⌜ r ≡ signed (now (word .entry)) ⌝ }
 {
     match word {
@@ -56,7 +56,7 @@ pub fn signed(word: &[u8]) -> Option<i64>
 }
 
 /// A number, or a minus alone where there is none.
-pub fn second(word: &[u8]) -> Option<Option<u64>>
+pub(crate) fn second(word: &[u8]) -> Option<Option<u64>>
     ensures { λ r. ⌜ r ≡ second (now (word .entry)) ⌝ }
 {
     match word {

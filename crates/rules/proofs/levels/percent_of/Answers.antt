@@ -4,7 +4,7 @@ use native.Mathlib.Omega.{arith}
 use Rattle.std.proofs.shelf.Bits.{mul-le}
 use Rattle.rules.proofs.levels.percent_of.Needs as need
 
-pub cast-result : need.cast-result
-cast-result c =
+pub cast-result-3 : need.cast-result-3
+cast-result-3 c =
     let most = mul-le (c .args .risk) (c .args .rate) 500_000_000 190 (omega arith) (omega arith) in
     omega (arith, most)
