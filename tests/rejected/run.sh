@@ -66,7 +66,7 @@ try() {
         echo "ok: $name refused: $line"
     else
         fail "is not refused with $error alone (status $status):"
-        grep ': error' "$work/log" | cut -c 1-200
+        grep -e ': error' -e '^rt: ' "$work/log" | cut -c 1-200
     fi
 }
 
