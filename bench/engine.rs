@@ -565,17 +565,17 @@ struct Words<'a> {
 
 impl<'a> Words<'a> {
     fn new(line: &'a [u8]) -> Words<'a> {
-        Words { rest: line.strip_suffix(b"\r").unwrap_or(line) }
+        Words { rest: line }
     }
 
     fn next(&mut self) -> Option<&'a [u8]> {
         let line = self.rest;
         let mut start = 0;
-        while start < line.len() && (line[start] == b' ' || line[start] == b'\t') {
+        while start < line.len() && line[start].is_ascii_whitespace() {
             start += 1;
         }
         let mut end = start;
-        while end < line.len() && !matches!(line[end], b' ' | b'\t' | b'#') {
+        while end < line.len() && !line[end].is_ascii_whitespace() && line[end] != b'#' {
             end += 1;
         }
         self.rest = &line[end..];

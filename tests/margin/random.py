@@ -5,6 +5,8 @@
     random.py --special NAME      prints a script that is made for one purpose
     random.py --specials          prints the names of these
     random.py --answers ...       prints the answers that the model below gives to the script, not the script
+    random.py --difference SCRIPT ONE OTHER
+                                  prints the first place where two files of answers to a script differ
     random.py --stats [--engine PROGRAM] [COUNT [LINES]]
                                   runs COUNT (30) scripts of LINES (3000) lines and the special ones through
                                   PROGRAM (bench/engine.rs, built for it) and counts the answers of each call
@@ -96,7 +98,7 @@ class Model:
 
     def line(self, raw):
         """The answer to a line of the script, or None if it has no word."""
-        words = [word for word in re.split(rb"[ \t]+", re.sub(rb"\r\Z", b"", raw).split(b"#")[0]) if word]
+        words = [word for word in re.split(rb"[ \t\r\x0c]+", raw.split(b"#")[0]) if word]
         if not words:
             return None
         try:
@@ -348,7 +350,7 @@ class Script:
         self.tidy = r.random() < 0.2
         self.size = r.choice([3, 10, 100, 1000])
         self.move = r.choice([0.01, 0.05, 0.2, 0.8])
-        self.day = r.choice([60, 120, 250, 600])
+        self.day = r.choice([60, 60, 120, 120, 250, 250, 600, 3000])
 
     def chance(self, share):
         return self.rng.random() < share
@@ -914,40 +916,17 @@ def poor():
         lines += [f"check 0 0 -1000 -", f"send {number}", f"fill {number} 1 -",
                   f"check 0 0 1000 -", f"send {number + 1}", f"fill {number + 1} 10000000 -"]
         number += 2
-    lines += ["figures 0", "check 0 0 1 -", "withdraw 0 1", "closing 5000000"]
-    # Equity is 475,000,000,000 + 10^10 - 10^17 here.
-    lines += ["check 0 0 -97 -", f"send {number}", f"fill {number} 1 -", "figures 0", "closing 5000000", "closing 4900000",
-              "closing 4879655", "closing 4879654", "closing 4879653", "figures 0"]
-    lines += [f"deposit 0 {1 + 37 * k}" for k in range(20)] + ["figures 0"]
-    for price in range(4_999_000, 5_001_000, 40):
-        lines += [f"print 0 {price}"]
-    lines += ["figures 0", "closing 5000000", "figures 0", "opening", "figures 0", "deposit 0 1000000000000", "withdraw 0 1",
-              "check 0 0 -1 -", "check 0 0 -403 -", "send 1", "fill 1 1 -", "send 2", "fill 2 1 -", "figures 0",
-              "closing 5000000", "closing 1", "closing 10000000", "figures 0"]
+    # Equity is now 485,000,000,000 - 10^17 at the highest price, and 5,000,000 less for each hundredth below it.
+    lines += ["figures 0", "check 0 0 1 -", "check 0 0 -1000 -", f"cancel {number}", f"drop {number}", "withdraw 0 1",
+              "closing 1", "closing 9902999", "closing 9903000", "figures 0", "opening", "figures 0",
+              "deposit 0 1000000000000", "withdraw 0 1", "check 0 0 -1000 -", "check 0 0 -999 -", "check 0 0 -1 -",
+              "check 0 0 -403 -", "send 1", "fill 1 1 -", "figures 0", "print 0 10000000", "figures 0", "closing 5000000",
+              "closing 10000000", "figures 0", "opening", "figures 0", "check 0 0 -499 -", "send 1", "fill 1 10000000 -",
+              "figures 0", "closing 1", "opening", "figures 0", "check 0 0 1 -", "deposit 0 1", "figures 0"]
     return lines
 
 
 def floor():
-    """Cash of exactly -10^17 at a Closing, and one satang below it."""
-    lines = ["house 4 gross", "product 1 1", "series 0 10000 5000000", "series 0 1 50", "account", "opening",
-             "deposit 0 1000", "check 0 0 500 -", "send 1", "fill 1 10000000 -"]
-    # The order of 500 at the highest price, and 999 turns there and back, against 5,000,000 at the close.
-    number = 2
-    for _ in range(1000):
-        lines += [f"check 0 0 -1000 -", f"send {number}", f"fill {number} 1 -",
-                  f"check 0 0 1000 -", f"send {number + 1}", f"fill {number + 1} 10000000 -"]
-        number += 2
-    lines += ["figures 0", "closing 10000000 50", "closing 9998000 50"]
-    # Equity is 1,000 - 1000 * 99,999,990,000,000 at 10,000,000: 10,000,001,000 above the bound. A point less in the mark
-    # takes 5,000,000: 2,000 of them leave 1,000, and the second series takes the rest.
-    lines += [f"check 0 1 -1 -", f"check 0 0 -1 1", f"send {number}", f"fill {number} 9999999 50", "figures 0"]
-    for price in (9_998_000, 9_997_998, 9_997_997, 9_997_996, 9_997_995):
-        for second in (1, 50, 1050, 8000, 5_000_000, 9_999_999):
-            lines += [f"print 0 {price}", f"print 1 {second}", "figures 0", f"closing {price} {second}"]
-    return lines
-
-
-def exact_floor():
     """The bound itself: one satang below it is refused, the bound is granted."""
     model = Model()
     lines = []
@@ -956,26 +935,25 @@ def exact_floor():
         lines.append(line)
         return model.line(line.encode())
 
-    for line in ["house 5 pairs", "product 1 1", "series 0 10000 5000000", "series 0 1 50", "account", "opening",
+    for line in ["house 5 gross", "product 1 1", "series 0 10000 5000000", "series 0 1 5000000", "account", "opening",
                  "deposit 0 100000", "check 0 1 10 -", "send 1", "fill 1 5000000 -", "check 0 0 500 -", "send 2",
-                 "fill 2 10000000 -"]:
+                 "fill 2 10000000 -", "figures 0"]:
         put(line)
     number = 3
-    for _ in range(999):
+    for _ in range(1000):
         for lots, price in ((-1000, 1), (1000, 10_000_000)):
             put(f"check 0 0 {lots} -"), put(f"send {number}"), put(f"fill {number} {price} -")
             number += 1
     # What is left above the bound at 10,000,000 goes by the first series in steps of 5,000,000, and by the second in tens.
     prices = [10_000_000, 5_000_000]
     prices[0] -= (model.equity(0, prices) + CASH) // 5_000_000
-    while model.equity(0, prices) >= -CASH + 10:
-        prices[1] -= 1
+    prices[1] -= (model.equity(0, prices) + CASH) // 10
     left = model.equity(0, prices) + CASH
-    assert 0 <= left < 10 and prices[0] >= 1, (left, prices)
+    assert 0 <= left < 10 and min(prices) >= 20, (left, prices)
     below = [prices[0], prices[1] - 1]
     put("figures 0")
     put("closing %d %d" % tuple(below))
-    # The last satang: ten lots at the second series, moved by an order of one lot at a price below or above.
+    # The last satang: a lot of the second series sold for less than its mark.
     put("check 0 1 -1 -"), put(f"send {number}"), put(f"fill {number} {prices[1] - left} -")
     assert model.equity(0, prices) == -CASH
     number += 1
@@ -1054,7 +1032,7 @@ def opposite():
     return lines
 
 
-SPECIAL = {f.__name__: f for f in (worked, rich, poor, floor, exact_floor, numbers, dropped, drained, opposite)}
+SPECIAL = {f.__name__: f for f in (worked, rich, poor, floor, numbers, dropped, drained, opposite)}
 
 
 def special(name):
@@ -1084,13 +1062,13 @@ def table(engine, title, scripts):
     total = 0
     for script in scripts:
         answers = subprocess.run([engine], input=script, stdout=subprocess.PIPE, check=True).stdout.split(b"\n")[:-1]
-        blank = re.compile(rb"[ \t]*(#.*)?\r?\Z", re.S)
+        blank = re.compile(rb"[ \t\r\x0c]*(#.*)?\Z", re.S)
         asked = [line for line in script.split(b"\n") if not blank.match(line)]
         assert len(asked) == len(answers), (len(asked), len(answers))
         total += len(answers)
         most = 0
         for line, answer in zip(asked, answers):
-            name = re.match(rb"[ \t]*([^ \t#\r]*)", line)[1].decode("latin-1")
+            name = re.match(rb"[ \t\r\x0c]*([^ \t\r\x0c#]*)", line)[1].decode("latin-1")
             words = answer.decode().split()
             kind = answer.decode() if words[0] != "ok" else "ok"
             name = name if name in CALLS + ["house"] else "other"
@@ -1106,12 +1084,33 @@ def table(engine, title, scripts):
     print(f"{title}: {total} answers")
     names = ["house"] + CALLS + ["other"]
     kinds = ["ok"] + [f"refused {n}" for n in range(1, 14)] + ["not now", "unreadable"]
-    print("          " + "".join("%8s" % kind.replace("refused ", "") for kind in kinds).replace("unreadable", "unread."))
+    heads = [kind.replace("refused ", "").replace("unreadable", "unread") for kind in kinds]
+    print("          " + "".join("%8s" % head for head in heads))
     for name in names:
         print("%-10s" % name + "".join("%8s" % (seen.get((name, kind)) or ".") for kind in kinds))
     print("figures:  " + "; ".join(f"{state}: {n}" for state, n in sorted(states.items())))
     print("highest order number: %d" % max(calls))
     print()
+
+
+# Comparison.
+
+BLANK = re.compile(rb"[ \t]*(#.*)?\r?\Z", re.S)
+
+
+def difference(script, one, other):
+    """Prints the first difference of two files of answers, and the line of the script that they answer."""
+    lines = [(n, line) for n, line in enumerate(open(script, "rb").read().split(b"\n"), 1) if not BLANK.match(line)]
+    texts = [open(name, "rb").read().split(b"\n") for name in (one, other)]
+    for i in range(max(map(len, texts))):
+        answers = [text[i] if i < len(text) else b"(no line)" for text in texts]
+        if answers[0] != answers[1]:
+            number, line = lines[i] if i < len(lines) else (0, b"(beyond the script's end)")
+            short = lambda text: repr(text if len(text) <= 200 else text[:200] + b"...")[1:]
+            print("line %d: %s" % (number, short(line)))
+            for name, answer in zip((one, other), answers):
+                print("%s: %s" % (os.path.basename(name), short(answer)))
+            return
 
 
 def main(arguments):
@@ -1123,6 +1122,9 @@ def main(arguments):
         return
     if arguments[:1] == ["--stats"]:
         statistics(arguments[1:])
+        return
+    if arguments[:1] == ["--difference"]:
+        difference(*arguments[1:])
         return
     if arguments[:1] == ["--special"]:
         text = special(arguments[1])

@@ -19,10 +19,10 @@ pub settle-more : (ss : List Series) (ps : List Position) (i : ℕ) → i < leng
     → set (settle-positions (take i ss) ps) i (settled-at ss ps i) ≡ settle-positions (take (i + 1) ss) ps
 settle-more ss ps i lt all = rw (add-one i) (by ss ps i lt all)
   where
-  by : (ss : List Series) (ps : List Position) (i : ℕ) → i < length ss → length ss ≤ length ps
-      → set (settle-positions (take i ss) ps) i (settled-at ss ps i) ≡ settle-positions (take (suc i) ss) ps
-  by [] ps i lt all = absurd (omega arith)
-  by (s ∷ ss) [] i lt all = absurd (omega arith)
-  by (s ∷ ss) (p ∷ ps) zero lt all = refl
-  by (s ∷ ss) (p ∷ ps) (suc i) lt all =
-      ap (λ (qs : List Position). record { net = p .net; carry = p .net *ℤ pos (mark (s .quote)) } ∷ qs) (by ss ps i (omega arith) (omega arith))
+    by : (ss : List Series) (ps : List Position) (i : ℕ) → i < length ss → length ss ≤ length ps
+        → set (settle-positions (take i ss) ps) i (settled-at ss ps i) ≡ settle-positions (take (suc i) ss) ps
+    by [] ps i lt all = absurd (omega arith)
+    by (s ∷ ss) [] i lt all = absurd (omega arith)
+    by (s ∷ ss) (p ∷ ps) zero lt all = refl
+    by (s ∷ ss) (p ∷ ps) (suc i) lt all =
+        ap (λ (qs : List Position). record { net = p .net; carry = p .net *ℤ pos (mark (s .quote)) } ∷ qs) (by ss ps i (omega arith) (omega arith))

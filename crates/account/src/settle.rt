@@ -36,7 +36,10 @@ fn settled(series: &[Series], positions: [Position; 24]) -> [Position; 24]
     let mut after = positions;
     for i in 0..series.len() {
         let net = positions[i].net;
-        after[i] = Position { net, carry: value_at(net, mark_of(series[i].quote)) };
+        after[i] = Position {
+            net,
+            carry: value_at(net, mark_of(series[i].quote)),
+        };
     }
     after
 }
@@ -53,6 +56,11 @@ impl<R: MarginRule> Market<R> {
         let levels = self.requirements(before);
         let call = call_at_closing(equity, levels, account.call);
         let positions = settled(self.series.as_slice(), account.positions);
-        Account { cash: equity as i64, positions, orders: account.orders, call }
+        Account {
+            cash: equity as i64,
+            positions,
+            orders: account.orders,
+            call,
+        }
     }
 }

@@ -25,8 +25,16 @@ pub fn on_closed<R: MarginRule>(house: &mut Closed<R>, command: Command) -> Repl
     match command {
         Command::House { number: _, rule: _ } => Reply::Unreadable,
         Command::Product { outright, spread } => entered_reply(house.product(outright, spread)),
-        Command::Rates { product, outright, spread } => done_reply(house.rates(product, outright, spread)),
-        Command::Series { product, multiplier, price } => entered_reply(house.series(product, multiplier, price)),
+        Command::Rates {
+            product,
+            outright,
+            spread,
+        } => done_reply(house.rates(product, outright, spread)),
+        Command::Series {
+            product,
+            multiplier,
+            price,
+        } => entered_reply(house.series(product, multiplier, price)),
         Command::Account => entered_reply(house.account()),
         Command::Figures { account } => told_reply(house.figures(account)),
         _ => Reply::NotNow,
@@ -84,7 +92,11 @@ fn send<R: MarginRule>(house: &mut Trading<R>, tickets: &mut Vec<Ticket>, order:
 }
 
 /// Drops the order of a ticket in hand.
-fn drop_order<R: MarginRule>(house: &mut Trading<R>, tickets: &mut Vec<Ticket>, order: u64) -> Reply {
+fn drop_order<R: MarginRule>(
+    house: &mut Trading<R>,
+    tickets: &mut Vec<Ticket>,
+    order: u64,
+) -> Reply {
     let Some(place) = place_of(tickets, order) else {
         return Reply::Refused(Refusal::NoSuchOrder);
     };
@@ -113,10 +125,19 @@ pub fn on_trading<R: MarginRule>(
         Command::Print { series, price } => Ok(done_reply(house.print(series, price))),
         Command::Deposit { account, amount } => Ok(done_reply(house.deposit(account, amount))),
         Command::Withdraw { account, amount } => Ok(done_reply(house.withdraw(account, amount))),
-        Command::Check { account, series, lots, second } => check(house, tickets, account, series, lots, second),
+        Command::Check {
+            account,
+            series,
+            lots,
+            second,
+        } => check(house, tickets, account, series, lots, second),
         Command::Send { order } => Ok(send(house, tickets, order)),
         Command::Drop { order } => Ok(drop_order(house, tickets, order)),
-        Command::Fill { order, price, second } => Ok(done_reply(house.fill(order, price, second))),
+        Command::Fill {
+            order,
+            price,
+            second,
+        } => Ok(done_reply(house.fill(order, price, second))),
         Command::Cancel { order } => Ok(done_reply(house.cancel(order))),
         Command::Figures { account } => Ok(told_reply(house.figures(account))),
         _ => Ok(Reply::NotNow),

@@ -23,10 +23,7 @@ pub enum Session {
 fn set_up(heap: Global, command: Command) -> (Session, Result<Reply, AllocError>) {
     match command {
         Command::House { number, rule } => match Closed::new(heap, number, rule) {
-            Ok(house) => (
-                Session::Closed(house, Vec::new(heap)),
-                Ok(Reply::Done),
-            ),
+            Ok(house) => (Session::Closed(house, Vec::new(heap)), Ok(Reply::Done)),
             Err(e) => (Session::Waiting, Err(e)),
         },
         _ => (Session::Waiting, Ok(Reply::Unreadable)),
@@ -39,10 +36,7 @@ fn with_closed(
     command: Command,
 ) -> (Session, Result<Reply, AllocError>) {
     match command {
-        Command::Opening => (
-            Session::Trading(house.opening(), tickets),
-            Ok(Reply::Done),
-        ),
+        Command::Opening => (Session::Trading(house.opening(), tickets), Ok(Reply::Done)),
         _ => {
             let reply = on_closed(&mut house, command);
             (Session::Closed(house, tickets), Ok(reply))
@@ -60,10 +54,7 @@ fn close(
         Ok(closed) => (Session::Closed(closed, tickets), Ok(Reply::Done)),
         Err(back) => {
             let (trading, why) = back;
-            (
-                Session::Trading(trading, tickets),
-                Ok(Reply::Refused(why)),
-            )
+            (Session::Trading(trading, tickets), Ok(Reply::Refused(why)))
         }
     }
 }
@@ -85,7 +76,12 @@ fn with_trading(
 
 impl Session {
     /// The session after a command, and what the command is answered.
-    pub fn next(self, heap: Global, command: Command, prices: &[u64]) -> (Session, Result<Reply, AllocError>) {
+    pub fn next(
+        self,
+        heap: Global,
+        command: Command,
+        prices: &[u64],
+    ) -> (Session, Result<Reply, AllocError>) {
         match self {
             Session::Waiting => set_up(heap, command),
             Session::Closed(house, tickets) => with_closed(house, tickets, command),

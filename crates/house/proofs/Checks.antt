@@ -49,7 +49,7 @@ pub checked-terms : (s : State) (a i : ℕ) (lots : ℤ) (second : Option ℕ) (
     → Fillable (s .market .series) (x .positions) (product-of (s .market .series) (t .series)) t
 checked-terms s a i lots second x t is knows ranged fits nets =
     checked s a x t (subst (λ (u : Trade). true ≡ (has-account s a && (has-series s (u .series) && knows-second s (u .second)))) (sym is) knows)
-        (subst (λ (u : Trade). true ≡ lots-in-range (u .lots)) (sym is) ranged) fits nets
+    (subst (λ (u : Trade). true ≡ lots-in-range (u .lots)) (sym is) ranged) fits nets
 
 pub none-there : {A : Type 0} (o : Option A) → false ≡ isSome o → o ≡ None
 none-there None h = refl

@@ -40,15 +40,15 @@ module _ (ss : List Series) (n : ℕ) (m : Market) (xs : List Account) where
       → Each (sound ss n) xs → none-open xs ≡ true → cash-fits-at m xs ≡ true → Each (sound (m .series) 0) (map (settle-account m) xs)
   settled-each long marks all-sound none fits =
       each-map (λ x. sound ss n x && (not (any-open (x .orders)) && cash-fits (equity m x))) (sound (m .series) 0) (settle-account m) xs
-          (λ x h. let a = and-parts (sound ss n x) (not (any-open (x .orders)) && cash-fits (equity m x)) h in
-              let b = and-parts (not (any-open (x .orders))) (cash-fits (equity m x)) (a .1) in
-              keeps-settled ss n m x long marks (a .0) (not-open (any-open (x .orders)) (b .0)) (b .1))
-          (λ k d lt. both (sound ss n (getD xs k d)) (not (any-open (getD xs k d .orders))) (cash-fits (equity m (getD xs k d))) (all-sound k d lt)
-              (all-at (λ (x : Account). not (any-open (x .orders))) xs k d none lt) (all-at (λ (x : Account). cash-fits (equity m x)) xs k d fits lt))
+      (λ x h. let a = and-parts (sound ss n x) (not (any-open (x .orders)) && cash-fits (equity m x)) h in
+      let b = and-parts (not (any-open (x .orders))) (cash-fits (equity m x)) (a .1) in
+      keeps-settled ss n m x long marks (a .0) (not-open (any-open (x .orders)) (b .0)) (b .1))
+      (λ k d lt. both (sound ss n (getD xs k d)) (not (any-open (getD xs k d .orders))) (cash-fits (equity m (getD xs k d))) (all-sound k d lt)
+      (all-at (λ (x : Account). not (any-open (x .orders))) xs k d none lt) (all-at (λ (x : Account). cash-fits (equity m x)) xs k d fits lt))
     where
-    not-open : (b : Bool) → not b ≡ true → b ≡ false
-    not-open true h = cc
-    not-open false h = refl
+      not-open : (b : Bool) → not b ≡ true → b ≡ false
+      not-open true h = cc
+      not-open false h = refl
 
 pub closing-granted : (s : State) (prices : List ℕ) (m : Market) (xs : List Account) → true ≡ none-open (s .accounts) → length prices ≡ length (s .market .series)
     → true ≡ all price-in-range prices → true ≡ cash-fits-at (with-series (settle-prices prices (s .market .series)) (s .market)) (s .accounts)

@@ -111,9 +111,10 @@ decides-slots ss ps q (o ∷ os) =
     to h (suc k) = subst (λ (n : ℕ). Slot-fits ss ps n (getD os k None)) (omega arith) (h .1 k)
 
     from : ((k : ℕ) → Slot-fits ss ps (q + k) (getD (o ∷ os) k None)) → Slot-fits ss ps q o × ((k : ℕ) → Slot-fits ss ps (suc q + k) (getD os k None))
-    from h =
-        (subst (λ (n : ℕ). Slot-fits ss ps n o) (omega arith) (h zero),
-        λ k. subst (λ (n : ℕ). Slot-fits ss ps n (getD os k None)) (omega arith) (h (suc k)))
+    from h = (
+      subst (λ (n : ℕ). Slot-fits ss ps n o) (omega arith) (h zero),
+      λ k. subst (λ (n : ℕ). Slot-fits ss ps n (getD os k None)) (omega arith) (h (suc k)),
+    )
 
 zero-size : (z : ℤ) → natAbs z ≡ 0 → z ≡ pos 0
 zero-size z h = omega (arith, ints)
@@ -135,7 +136,7 @@ decides-rest ss ps = decides-like (all is-flat qs) to from (decides-all is-flat 
     to : ((k : ℕ) → k < length qs → getD qs k flat ≡ flat) → (j : ℕ) → length ss ≤ j → getD ps j flat ≡ flat
     to h j le =
         let at : getD qs (j - length ss) flat ≡ getD ps j flat =
-            getD-drop (length ss) ps (j - length ss) flat ∙ ap (λ (k : ℕ). getD ps k flat) (omega arith) in
+        getD-drop (length ss) ps (j - length ss) flat ∙ ap (λ (k : ℕ). getD ps k flat) (omega arith) in
         sym at ∙ ⊎-elim (h (j - length ss)) (getD-past qs (j - length ss) flat) (cases-lt (j - length ss) (length qs))
 
     from : ((j : ℕ) → length ss ≤ j → getD ps j flat ≡ flat) → (k : ℕ) → k < length qs → getD qs k flat ≡ flat
@@ -177,9 +178,13 @@ decides-sound ss n x =
     }
 
     from : Facts ss n x → Parts
-    from f =
-        (f .cash, ((λ j lt. (f .nets j, f .carries j lt)),
-        ((λ k. subst (λ (i : ℕ). Slot-fits ss (x .positions) i (getD (x .orders) k None)) (sym (zero-add k)) (f .slots k)), f .rest)))
+    from f = (
+      f .cash,
+      (
+        (λ j lt. (f .nets j, f .carries j lt)),
+        ((λ k. subst (λ (i : ℕ). Slot-fits ss (x .positions) i (getD (x .orders) k None)) (sym (zero-add k)) (f .slots k)), f .rest),
+      ),
+    )
 
 pub facts : (ss : List Series) (n : ℕ) (x : Account) → sound ss n x ≡ true → Facts ss n x
 facts ss n x = decides-sound ss n x .0

@@ -262,7 +262,7 @@ keeps-settled ss n m x same marks h none fits = test (m .series) 0 (settle-accou
     small : (j : ℕ) → j < length ps → natAbs (getD (settle-positions (m .series) ps) j flat .carry) ≤ largest-leg
     small j lt =
         ⊎-elim (λ (in′ : j < length (m .series)). rw (settled-carry (m .series) ps j in′ lt)
-            (abs-product (getD ps j flat .net) (pos (mark (series-at (m .series) j .quote))) 1_000 10_000_000 (f .nets j) (marks j)))
+        (abs-product (getD ps j flat .net) (pos (mark (series-at (m .series) j .quote))) 1_000 10_000_000 (f .nets j) (marks j)))
         (λ past. rw (settled-past (m .series) ps j past ∙ f .rest j (omega arith)) (omega arith)) (cases-lt j (length (m .series)))
 
 abs-sum : (a b : ℤ) → natAbs (a +ℤ b) ≤ natAbs a + natAbs b
@@ -312,7 +312,7 @@ module _ (ss : List Series) (ps : List Position) (q : ℕ) (t : Trade) (price se
       by (Some k) s =
           ⊎-elim (λ (e : t .series ≡ j). rw (leg-other k j (negℤ (t .lots)) second-price qs (λ d. s .1 .0 (e ∙ sym d))) first)
           (λ apart. let more = leg-carry k j (negℤ (t .lots)) second-price qs (omega (arith, s .0, leg-length (t .series) (t .lots) price ps)) (omega (arith, f .lots, abs-neg (t .lots))) second-low in
-              rw (← leg-other (t .series) j (t .lots) price ps apart) more)
+          rw (← leg-other (t .series) j (t .lots) price ps apart) more)
           (cases-eq (t .series) j)
 
 pub keeps-filled : (ss : List Series) (n : ℕ) (m : Market) (x : Account) (q : ℕ) (o : Order) (price second-price : ℕ)
@@ -321,8 +321,12 @@ pub keeps-filled : (ss : List Series) (n : ℕ) (m : Market) (x : Account) (q : 
 keeps-filled ss n m x q o price second-price room low second-low h is = test ss n (with-order q None (with-fill m qs x)) (record {
   cash = f .cash;
   nets = filled-nets (length ss) (o .trade) price second-price ps room (trade-fits ss ps q (o .trade) fits) (f .nets);
-  carries = λ j lt. omega (arith, f .carries j (omega (arith, filled-length (o .trade) price second-price ps)),
-      filled-carry ss ps q (o .trade) price second-price fits room low second-low j, count-ended (x .orders) q o is);
+  carries = λ j lt. omega (
+    arith,
+    f .carries j (omega (arith, filled-length (o .trade) price second-price ps)),
+    filled-carry ss ps q (o .trade) price second-price fits room low second-low j,
+    count-ended (x .orders) q o is,
+  );
   slots = slots-set (Slot-fits ss qs) (x .orders) q None tt still (λ _. tt);
   rest = λ j le. filled-other ss ps q (o .trade) price second-price fits j (λ i lt _ e. omega arith) ∙ f .rest j le;
 })
@@ -352,4 +356,4 @@ pub placed-each : (ss : List Series) (n m : ℕ) (xs : List Account) (a len : �
     → (k : ℕ) (d : Account) → k < len → sound ss m (getD (set xs a y) k d) ≡ true
 placed-each ss n m xs a len y long more old new k d lt =
     rw more (each-set (sound ss (n + 1)) xs a y
-        (λ j e h. keeps-more ss n (n + 1) (getD xs j e) (omega arith) (old j e (omega (arith, long)))) new k d (omega (arith, long, length-set xs a y)))
+    (λ j e h. keeps-more ss n (n + 1) (getD xs j e) (omega arith) (old j e (omega (arith, long)))) new k d (omega (arith, long, length-set xs a y)))

@@ -1,6 +1,5 @@
 pub mod Facts
 pub mod Keeps
-
 pub mod Grants
 pub mod Listed
 pub mod Checks

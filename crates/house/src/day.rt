@@ -103,7 +103,13 @@ impl<R: MarginRule> Trading<R> {
     }
 
     /// Tests an order, which is then held; its ticket is handed back to `send` or to `drop_order`.
-    pub fn check(&mut self, account: u64, series: u64, lots: i64, second: Option<u64>) -> Result<Ticket, Refusal>
+    pub fn check(
+        &mut self,
+        account: u64,
+        series: u64,
+        lots: i64,
+        second: Option<u64>,
+    ) -> Result<Ticket, Refusal>
         ensures step { λ r. ⌜ step (the-trading meaning (now (self .entry))) (Check account series lots second) ≡ (ticketed r, the-trading meaning (now (self .exit))) ⌝ }
         ensures house { λ r. ⌜ Carries (now (self .entry) .house .number) r ⌝ }
     {

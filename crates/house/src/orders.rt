@@ -109,9 +109,7 @@ impl<R: MarginRule> House<R> {
     {
         match trade.second {
             None => true,
-            Some(j) => {
-                trade.series != j && self.product_of(trade.series) == self.product_of(j)
-            }
+            Some(j) => { trade.series != j && self.product_of(trade.series) == self.product_of(j) }
         }
     }
 
@@ -203,7 +201,13 @@ const LAST_NUMBER: usize = 9_999;
 
 impl<R: MarginRule> House<R> {
     /// Tests an order, which is then held under the day's next order number.
-    pub fn check(&mut self, account: u64, series: u64, lots: i64, second: Option<u64>) -> Result<u64, Refusal>
+    pub fn check(
+        &mut self,
+        account: u64,
+        series: u64,
+        lots: i64,
+        second: Option<u64>,
+    ) -> Result<u64, Refusal>
         ensures { λ r. ⌜ step (trading meaning (now (self .entry))) (Check account series lots second) ≡ (ordered r, trading meaning (now (self .exit))) ⌝ }
     {
         if !self.knows(account, series, second) {

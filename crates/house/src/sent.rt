@@ -189,7 +189,12 @@ fn price_or_none(second_price: Option<u64>) -> u32
 
 impl<R: MarginRule> House<R> {
     /// Fills a sent order whole, which ends it; released margin is credited to an open call.
-    pub fn fill(&mut self, number: u64, price: u64, second_price: Option<u64>) -> Result<(), Refusal>
+    pub fn fill(
+        &mut self,
+        number: u64,
+        price: u64,
+        second_price: Option<u64>,
+    ) -> Result<(), Refusal>
         ensures { λ r. ⌜ step (trading meaning (now (self .entry))) (Fill number price «second_price») ≡ (done r, trading meaning (now (self .exit))) ⌝ }
     {
         let Some((place, order)) = self.find(Stage::Sent, number) else {
@@ -203,7 +208,8 @@ impl<R: MarginRule> House<R> {
         }
         let before = self.account_at(place.account);
         let second = price_or_none(second_price);
-        let filled = self.market.filled(&before, order.trade, price as u32, second);
+        let filled = self.market
+            .filled(&before, order.trade, price as u32, second);
         self.put(place.account, with_order(&filled, place.product, None));
         Ok(())
     }

@@ -19,7 +19,8 @@ use std::io::BufWriter;
 use std::io::Read;
 use std::io::Write;
 
-const HELP: &str = "margin [SCRIPT]: runs a script of calls on a house, from a file or standard input, and prints one answer a line.
+const HELP: &str =
+    "margin [SCRIPT]: runs a script of calls on a house, from a file or standard input, and prints one answer a line.
 
     house NUMBER RULE                     sets the house up; RULE is gross, larger or pairs
     product OUTRIGHT SPREAD               enters a product with its risk margins, in satang a lot
@@ -89,7 +90,11 @@ fn next_line<B: Read>(input: &mut BufReader<B>, buffers: &mut Buffers) -> io::Re
 }
 
 /// The session after the line in the buffers, whose answer they then hold.
-fn take_line(rt: &LibcRuntime, session: Session, buffers: &mut Buffers) -> (Session, Result<(), AllocError>) {
+fn take_line(
+    rt: &LibcRuntime,
+    session: Session,
+    buffers: &mut Buffers,
+) -> (Session, Result<(), AllocError>) {
     match read(buffers.line.as_slice(), &mut buffers.prices) {
         Err(e) => (session, Err(e)),
         Ok(Reading::Empty) => (session, Ok(())),
@@ -105,7 +110,11 @@ fn take_line(rt: &LibcRuntime, session: Session, buffers: &mut Buffers) -> (Sess
 }
 
 /// Runs the script, line by line, and answers whether all went well.
-fn run_lines<B: Read>(rt: &LibcRuntime, input: &mut BufReader<B>, mut buffers: Buffers) -> io::Result<()> {
+fn run_lines<B: Read>(
+    rt: &LibcRuntime,
+    input: &mut BufReader<B>,
+    mut buffers: Buffers,
+) -> io::Result<()> {
     let mut output = BufWriter::new(rt.stdout());
     let mut session = Session::Waiting;
     let mut outcome = Ok(());
@@ -131,7 +140,11 @@ fn run_lines<B: Read>(rt: &LibcRuntime, input: &mut BufReader<B>, mut buffers: B
 }
 
 /// Writes the answer of a line.
-fn answer<W: Write>(output: &mut W, taken: Result<(), AllocError>, buffers: &Buffers) -> io::Result<()> {
+fn answer<W: Write>(
+    output: &mut W,
+    taken: Result<(), AllocError>,
+    buffers: &Buffers,
+) -> io::Result<()> {
     taken?;
     output.write_all(buffers.answer.as_slice())
 }

@@ -27,9 +27,10 @@ loop-i-again c =
     let value = c .value-at .ensures in
     let mark = c .mark-of .ensures in
     let new : Position = record { net = toZ w32 (ofZ w32 net); carry = toZ w64 (ofZ w64 (c .value-at .result)) } in
-    let is : new ≡ settled-at ss ps i = cc in
-    (ap (λ (x : Position). set (c .loop-i .after) i x) is ∙ ap (λ (qs : List Position). set qs i (settled-at ss ps i)) (c .loop-i .inv .0) ∙ settle-more ss ps i (c .loop-i-test .taken) (omega (arith, all, c .pre)),
-     length-set (c .loop-i .after) i new ∙ c .loop-i .inv .1)
+    let is : new ≡ settled-at ss ps i = cc in (
+      ap (λ (x : Position). set (c .loop-i .after) i x) is ∙ ap (λ (qs : List Position). set qs i (settled-at ss ps i)) (c .loop-i .inv .0) ∙ settle-more ss ps i (c .loop-i-test .taken) (omega (arith, all, c .pre)),
+      length-set (c .loop-i .after) i new ∙ c .loop-i .inv .1,
+    )
 
 pub returns : need.returns
 returns c =

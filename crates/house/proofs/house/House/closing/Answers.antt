@@ -30,7 +30,7 @@ settle-all-requires g c κs =
     let xs = c .as-mut-slice .result .now in
     let same : xs ≡ vec-items (h .accounts) = c .as-mut-slice .ensures .value in
     let fits : cash-fits-at m xs ≡ true =
-        ap (λ (k : Market). cash-fits-at k xs) (c .settle .ensures) ∙ ap (λ (zs : List Account). cash-fits-at m′ zs) (same ∙ sym (c .as-slice-2 .ensures .value)) ∙ sym (c .if-not-all-fit .ensures tt) in
+    ap (λ (k : Market). cash-fits-at k xs) (c .settle .ensures) ∙ ap (λ (zs : List Account). cash-fits-at m′ zs) (same ∙ sym (c .as-slice-2 .ensures .value)) ∙ sym (c .if-not-all-fit .ensures tt) in
     let sounds : Each (sound ss n) xs = λ k d lt. subst (λ (zs : List Account). sound ss n (getD zs k d) ≡ true) (sym same) (h .sound k d (omega (arith, lt, c .as-mut-slice .ensures .len))) in
     settleable ss n m xs sounds fits
 
@@ -45,20 +45,20 @@ ghost-self-3 g c =
     let xs = c .as-mut-slice .result .now in
     let same : xs ≡ vec-items (h .accounts) = c .as-mut-slice .ensures .value in
     let fits : cash-fits-at m xs ≡ true =
-        ap (λ (k : Market). cash-fits-at k xs) (c .settle .ensures) ∙ ap (λ (zs : List Account). cash-fits-at m′ zs) (same ∙ sym (c .as-slice-2 .ensures .value)) ∙ sym (c .if-not-all-fit .ensures tt) in
+    ap (λ (k : Market). cash-fits-at k xs) (c .settle .ensures) ∙ ap (λ (zs : List Account). cash-fits-at m′ zs) (same ∙ sym (c .as-slice-2 .ensures .value)) ∙ sym (c .if-not-all-fit .ensures tt) in
     let sounds : Each (sound ss n) xs = λ k d lt. subst (λ (zs : List Account). sound ss n (getD zs k d) ≡ true) (sym same) (h .sound k d (omega (arith, lt, c .as-mut-slice .ensures .len))) in
     let none : none-open xs ≡ true = ap none-open (same ∙ sym (c .as-slice .ensures .value)) ∙ sym (c .if-not-none-open .ensures tt) in
     let many : length ps ≡ length ss = c .if-prices-len .left ∙ c .len .ensures ∙ h .market .series .ok .0 in
     let long : length (m .series) ≡ length ss = ap (λ (k : Market). length (k .series)) (c .settle .ensures) ∙ settle-length ps ss in
     let marks : (i : ℕ) → mark (series-at (m .series) i .quote) ≤ 10_000_000 =
-        λ i. subst (λ (k : Market). mark (series-at (k .series) i .quote) ≤ 10_000_000) (sym (c .settle .ensures)) (settled-mark ps ss (sym (c .if-not-all-priced .ensures tt)) many i) in
+    λ i. subst (λ (k : Market). mark (series-at (k .series) i .quote) ≤ 10_000_000) (sym (c .settle .ensures)) (settled-mark ps ss (sym (c .if-not-all-priced .ensures tt)) many i) in
     let each = settled-each ss n m xs long marks sounds none fits in
     let ws = c .settle-all .last .accounts in
     let as-long : length ws ≡ vec-len (h .accounts) = c .settle-all .kept .accounts ∙ c .as-mut-slice .ensures .len in
     let fill = refilled-is (h .accounts) ws as-long in
     let all = kept-each (m .series) (vec-len (c .clear .last .self)) (vec-len (h .accounts)) _ (map (settle-account m) xs) (fill ∙ c .settle-all .ensures) (c .clear .ensures .len) (sym as-long ∙ sym (ap length fill)) each in
     let empty : vec-len (c .clear .last .self) ≡ 0 = c .clear .ensures .len in
-    (search needs , (search needs , (search needs , (search needs , (all , ((λ k d lt. absurd (omega (arith, lt, empty))) , ((λ k d lt. absurd (omega (arith, lt, empty))) , tt)))))))
+    (search needs, (search needs, (search needs, (search needs, (all, ((λ k d lt. absurd (omega (arith, lt, empty))), ((λ k d lt. absurd (omega (arith, lt, empty))), tt)))))))
 
 pub returns : need.returns
 returns g c =

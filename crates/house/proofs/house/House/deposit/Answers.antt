@@ -39,4 +39,4 @@ returns g c =
     let again : toZ w64 (ofZ w64 z) ≡ z = search needs in
     let paid = paid-in n x (c .with-cash-after .result) (toZ w64 (ofZ w64 (x .cash))) z (toZ w64 (ofZ w64 z)) (c .credited .result) back again (c .in-Some .ensures tt) (c .credited .ensures) (c .with-cash-after .ensures) in
     deposit-granted (trading (g .R·MarginRule .meaning) (c .args .self .now)) (trading (g .R·MarginRule .meaning) (c .put .last .self)) (c .args .account) n x (c .with-cash-after .result)
-        (c .if-not-has-account .ensures tt) (c .if-not-amount-in-range .ensures tt) (c .account-at-before .ensures .value) paid (c .put .ensures)
+    (c .if-not-has-account .ensures tt) (c .if-not-amount-in-range .ensures tt) (c .account-at-before .ensures .value) paid (c .put .ensures)

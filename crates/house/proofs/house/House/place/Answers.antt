@@ -36,4 +36,4 @@ ghost-self g c =
     let here′ : Placement = record { account = c .args .account; product = q } in
     let accounts = pushed (λ (p : Placement). p .account < vec-len (h .accounts)) ps now-placed here′ n (vec-len (c .push-reserved .last .self)) (c .push-reserved .ensures .items) (h .placed .ok .0) (c .push-reserved .ensures .len) (h .«place_account») (c .pre .there) in
     let products = pushed (λ (p : Placement). p .product < 8) ps now-placed here′ n (vec-len (c .push-reserved .last .self)) (c .push-reserved .ensures .items) (h .placed .ok .0) (c .push-reserved .ensures .len) (h .«place_product») (c .pre .product) in
-    (search needs , (search needs , (search needs , (search needs , (all , (accounts , (products , tt)))))))
+    (search needs, (search needs, (search needs, (search needs, (all, (accounts, (products, tt)))))))

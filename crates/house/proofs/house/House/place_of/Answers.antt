@@ -25,6 +25,8 @@ returns g c =
     let is = nth-read (vec-items (h .placed)) (vec-len (h .placed)) (n - 1) p (h .placed .ok .0) lt (c .index .ensures) in
     record {
       found = numbered (vec-items (h .placed)) n (Some p) (omega (arith, c .if-number-lt1 .left)) is;
-      there = (subst (λ (q : Placement). q .account < vec-len (h .accounts)) (sym (c .index .ensures)) (h .«place_account» (n - 1) p lt),
-               subst (λ (q : Placement). q .product < 8) (sym (c .index .ensures)) (h .«place_product» (n - 1) p lt));
+      there = (
+        subst (λ (q : Placement). q .account < vec-len (h .accounts)) (sym (c .index .ensures)) (h .«place_account» (n - 1) p lt),
+        subst (λ (q : Placement). q .product < 8) (sym (c .index .ensures)) (h .«place_product» (n - 1) p lt),
+      );
     }

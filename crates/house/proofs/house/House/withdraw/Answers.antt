@@ -41,5 +41,5 @@ returns g c =
     let paid = paid-out n x (c .with-cash-after .result) (toZ w64 (ofZ w64 (x .cash))) z (toZ w64 (ofZ w64 z)) back again (c .in-Some .ensures tt) (c .with-cash-after .ensures) in
     let free-is = toZ-ofZ w128 (c .free .result) (record { sfits = c .free .ok }) ∙ c .free .ensures .value in
     withdraw-granted (trading (g .R·MarginRule .meaning) (c .args .self .now)) (trading (g .R·MarginRule .meaning) (c .put .last .self)) (c .args .account) n x (c .with-cash-after .result)
-        (c .if-not-has-account .ensures tt) (c .if-not-amount-in-range .ensures tt) (c .account-at-before .ensures .value) (c .if-is-some .ensures tt)
-        (c .if-not-covers .ensures tt ∙ ap (λ (f : ℤ). leZ (pos n) f) free-is) paid (c .put .ensures)
+    (c .if-not-has-account .ensures tt) (c .if-not-amount-in-range .ensures tt) (c .account-at-before .ensures .value) (c .if-is-some .ensures tt)
+    (c .if-not-covers .ensures tt ∙ ap (λ (f : ℤ). leZ (pos n) f) free-is) paid (c .put .ensures)
