@@ -3,11 +3,11 @@
 // of tests/margin/compare.sh.
 //
 //     rustc -O bench/engine.rs                                  the yardstick
-//     rustc -O -C debug-assertions=on bench/engine.rs           stops at an overflow or a broken invariant
+//     rustc -O -C debug-assertions=on bench/engine.rs           stops at an overflow
 
 use std::convert::TryFrom;
 use std::fs::File;
-use std::io::{self, ErrorKind, Read, Write};
+use std::io::{self, BufRead, BufReader, BufWriter, Write};
 use std::process::ExitCode;
 
 const PRODUCTS: usize = 8;
@@ -74,8 +74,6 @@ struct Account {
     cash: i64,
     net: [i64; SERIES],
     carry: [i64; SERIES],
-    /// Follows from `net`; moved at each fill.
-    sides: [Sides; PRODUCTS],
     orders: [Order; PRODUCTS],
     call: Option<MarginCall>,
 }
@@ -84,7 +82,6 @@ const NEW_ACCOUNT: Account = Account {
     cash: 0,
     net: [0; SERIES],
     carry: [0; SERIES],
-    sides: [Sides { long: 0, short: 0 }; PRODUCTS],
     orders: [Order { number: 0, sent: false, series: 0, second: None, lots: 0 }; PRODUCTS],
     call: None,
 };
@@ -150,28 +147,15 @@ impl Rule {
     }
 }
 
-impl Sides {
-    /// The sides after a move of one series' net lots.
-    fn moved(self, from: i64, to: i64) -> Sides {
-        Sides {
-            long: self.long - from.max(0) + to.max(0),
-            short: self.short - (-from).max(0) + (-to).max(0),
-        }
-    }
-}
-
 impl Account {
-    fn sides_after(&self, product: usize, order: &Order) -> Sides {
-        let lots = order.lots as i64;
-        let net = self.net[order.series as usize];
-        let sides = self.sides[product].moved(net, net + lots);
-        match order.second {
-            None => sides,
-            Some(second) => {
-                let net = self.net[second as usize];
-                sides.moved(net, net - lots)
-            }
+    /// The net lots after an order.
+    fn net_after(&self, order: &Order) -> [i64; SERIES] {
+        let mut net = self.net;
+        net[order.series as usize] += order.lots as i64;
+        if let Some(second) = order.second {
+            net[second as usize] -= order.lots as i64;
         }
+        net
     }
 
     fn credit(&mut self, amount: i64) {
@@ -205,14 +189,20 @@ impl House {
         }
     }
 
-    fn initial(&self, product: usize, sides: Sides) -> i64 {
-        let levels = &self.product[product];
-        self.rule.level(levels.outright.initial, levels.spread.initial, sides)
+    /// The long and the short lots of each product.
+    fn sides(&self, net: &[i64; SERIES]) -> [Sides; PRODUCTS] {
+        let mut sides = [Sides::default(); PRODUCTS];
+        for s in 0..self.series {
+            let side = &mut sides[self.product_of[s] as usize];
+            side.long += net[s].max(0);
+            side.short += (-net[s]).max(0);
+        }
+        sides
     }
 
     /// How IMR would change if the order filled now.
-    fn rise(&self, account: &Account, product: usize, order: &Order) -> i64 {
-        self.initial(product, account.sides_after(product, order)) - self.initial(product, account.sides[product])
+    fn rise(&self, account: &Account, order: &Order) -> i64 {
+        self.required(&account.net_after(order)).initial - self.required(&account.net).initial
     }
 
     fn equity(&self, account: &Account, marks: &[i64; SERIES]) -> i128 {
@@ -223,27 +213,16 @@ impl House {
         sum
     }
 
-    fn required(&self, account: &Account) -> Levels {
-        debug_assert!(self.sides_hold(account));
+    fn required(&self, net: &[i64; SERIES]) -> Levels {
+        let sides = self.sides(net);
         let mut sum = Levels::default();
         for p in 0..self.products {
-            let sides = account.sides[p];
             let Product { outright, spread } = &self.product[p];
-            sum.initial += self.rule.level(outright.initial, spread.initial, sides);
-            sum.maintenance += self.rule.level(outright.maintenance, spread.maintenance, sides);
-            sum.force += self.rule.level(outright.force, spread.force, sides);
+            sum.initial += self.rule.level(outright.initial, spread.initial, sides[p]);
+            sum.maintenance += self.rule.level(outright.maintenance, spread.maintenance, sides[p]);
+            sum.force += self.rule.level(outright.force, spread.force, sides[p]);
         }
         sum
-    }
-
-    fn sides_hold(&self, account: &Account) -> bool {
-        let mut sides = [Sides::default(); PRODUCTS];
-        for s in 0..self.series {
-            let side = &mut sides[self.product_of[s] as usize];
-            side.long += account.net[s].max(0);
-            side.short += (-account.net[s]).max(0);
-        }
-        sides == account.sides
     }
 
     fn needs(&self, account: &Account) -> i64 {
@@ -252,7 +231,7 @@ impl House {
             for p in 0..self.products {
                 let order = &account.orders[p];
                 if order.number != 0 {
-                    sum += self.rise(account, p, order).max(0);
+                    sum += self.rise(account, order).max(0);
                 }
             }
         }
@@ -260,7 +239,7 @@ impl House {
     }
 
     fn free(&self, account: &Account) -> i128 {
-        self.equity(account, &self.mark) - (self.required(account).initial + self.needs(account)) as i128
+        self.equity(account, &self.mark) - (self.required(&account.net).initial + self.needs(account)) as i128
     }
 
     fn known_account(&self, account: u64) -> Result<usize, Refusal> {
@@ -430,7 +409,7 @@ impl House {
             second: second.map(|second| second as u8),
             lots: lots as i16,
         };
-        let rise = self.rise(account, product, &order);
+        let rise = self.rise(account, &order);
         if account.call.is_some() && rise >= 0 {
             return Err(9);
         }
@@ -478,10 +457,9 @@ impl House {
         if !price_in_range(price) || !second_price.map_or(true, price_in_range) {
             return Err(2);
         }
-        let released = -self.rise(&self.account[a], product, &order);
+        let released = -self.rise(&self.account[a], &order);
         let account = &mut self.account[a];
         let lots = order.lots as i64;
-        account.sides[product] = account.sides_after(product, &order);
         let s = order.series as usize;
         account.net[s] += lots;
         account.carry[s] += lots * price as i64;
@@ -521,7 +499,7 @@ impl House {
         }
         for a in 0..self.accounts {
             let eb = equity[a];
-            let required = self.required(&self.account[a]);
+            let required = self.required(&self.account[a].net);
             let account = &mut self.account[a];
             account.cash = eb;
             for s in 0..count {
@@ -550,7 +528,7 @@ impl House {
     fn figures(&self, account: u64) -> Result<Figures, Refusal> {
         let account = &self.account[self.known_account(account)?];
         let eb = self.equity(account, &self.mark);
-        let required = self.required(account);
+        let required = self.required(&account.net);
         let free = eb - (required.initial + self.needs(account)) as i128;
         Ok(Figures { eb, required, free, call: account.call })
     }
@@ -769,119 +747,44 @@ fn run(house: &mut Option<Box<House>>, name: &[u8], words: &mut Words) -> Option
 
 // Writing.
 
-fn put_unsigned(out: &mut Vec<u8>, mut value: u64) {
-    let mut digits = [0u8; 20];
-    let mut at = digits.len();
-    loop {
-        at -= 1;
-        digits[at] = b'0' + (value % 10) as u8;
-        value /= 10;
-        if value == 0 {
-            break;
-        }
-    }
-    out.extend_from_slice(&digits[at..]);
-}
-
-fn put_signed(out: &mut Vec<u8>, value: i128) {
-    if value < 0 {
-        out.push(b'-');
-    }
-    match u64::try_from(value.unsigned_abs()) {
-        Ok(size) => put_unsigned(out, size),
-        Err(_) => out.extend_from_slice(value.unsigned_abs().to_string().as_bytes()),
-    }
-}
-
-fn put(out: &mut Vec<u8>, answer: &Option<Answer>) {
+fn put(out: &mut impl Write, answer: &Option<Answer>) -> io::Result<()> {
     match answer {
-        None => out.extend_from_slice(b"unreadable"),
-        Some(Answer::NotNow) => out.extend_from_slice(b"not now"),
-        Some(Answer::Done) => out.extend_from_slice(b"ok"),
-        Some(Answer::Number(number)) => {
-            out.extend_from_slice(b"ok ");
-            put_unsigned(out, *number as u64);
-        }
-        Some(Answer::Refused(number)) => {
-            out.extend_from_slice(b"refused ");
-            put_unsigned(out, *number as u64);
-        }
+        None => writeln!(out, "unreadable"),
+        Some(Answer::NotNow) => writeln!(out, "not now"),
+        Some(Answer::Done) => writeln!(out, "ok"),
+        Some(Answer::Number(number)) => writeln!(out, "ok {number}"),
+        Some(Answer::Refused(number)) => writeln!(out, "refused {number}"),
         Some(Answer::Figures(Figures { eb, required, free, call })) => {
-            out.extend_from_slice(b"ok ");
-            put_signed(out, *eb);
-            for level in [required.initial, required.maintenance, required.force] {
-                out.push(b' ');
-                put_unsigned(out, level as u64);
-            }
-            out.push(b' ');
-            put_signed(out, *free);
+            let Levels { initial, maintenance, force } = required;
+            write!(out, "ok {eb} {initial} {maintenance} {force} {free} ")?;
             match call {
-                None => out.extend_from_slice(b" -"),
-                Some(call) => {
-                    for part in [call.amount, call.credit, call.age as i64] {
-                        out.push(b' ');
-                        put_unsigned(out, part as u64);
-                    }
-                    out.extend_from_slice(if call.low { b" low" } else { b" high" });
+                None => writeln!(out, "-"),
+                Some(MarginCall { amount, credit, age, low }) => {
+                    writeln!(out, "{amount} {credit} {age} {}", if *low { "low" } else { "high" })
                 }
             }
         }
     }
-    out.push(b'\n');
 }
 
-fn run_line(house: &mut Option<Box<House>>, line: &[u8], out: &mut Vec<u8>) {
-    let mut words = Words::new(line);
-    if let Some(name) = words.next() {
-        let answer = run(house, name, &mut words);
-        put(out, &answer);
-    }
-}
-
-const BLOCK: usize = 1 << 16;
-
-fn run_script(input: &mut dyn Read, output: &mut dyn Write) -> io::Result<()> {
+fn run_script(input: &mut impl BufRead, out: &mut impl Write) -> io::Result<()> {
     let mut house = None;
-    let mut out = Vec::with_capacity(2 * BLOCK);
-    // The bytes read and not yet run are buffer[..held]; the first `seen` of them hold no newline.
-    let mut buffer = vec![0; BLOCK];
-    let (mut held, mut seen) = (0, 0);
-    loop {
-        if held == buffer.len() {
-            buffer.resize(2 * held, 0);
+    let mut line = Vec::new();
+    while input.read_until(b'\n', &mut line)? > 0 {
+        let mut words = Words::new(&line);
+        if let Some(name) = words.next() {
+            put(out, &run(&mut house, name, &mut words))?;
         }
-        let count = match input.read(&mut buffer[held..]) {
-            Ok(count) => count,
-            Err(error) if error.kind() == ErrorKind::Interrupted => continue,
-            Err(error) => return Err(error),
-        };
-        held += count;
-        let mut start = 0;
-        while let Some(length) = buffer[seen..held].iter().position(|&byte| byte == b'\n') {
-            run_line(&mut house, &buffer[start..seen + length], &mut out);
-            start = seen + length + 1;
-            seen = start;
-            if out.len() >= BLOCK {
-                output.write_all(&out)?;
-                out.clear();
-            }
-        }
-        if count == 0 {
-            run_line(&mut house, &buffer[start..held], &mut out);
-            output.write_all(&out)?;
-            return output.flush();
-        }
-        buffer.copy_within(start..held, 0);
-        held -= start;
-        seen = held;
+        line.clear();
     }
+    out.flush()
 }
 
 fn main() -> ExitCode {
-    let mut output = io::stdout().lock();
+    let mut output = BufWriter::with_capacity(1 << 16, io::stdout().lock());
     let result = match std::env::args_os().nth(1) {
-        None => run_script(&mut io::stdin().lock(), &mut output),
-        Some(name) => File::open(name).and_then(|mut file| run_script(&mut file, &mut output)),
+        None => run_script(&mut BufReader::with_capacity(1 << 16, io::stdin().lock()), &mut output),
+        Some(name) => File::open(name).and_then(|file| run_script(&mut BufReader::with_capacity(1 << 16, file), &mut output)),
     };
     match result {
         Ok(()) => ExitCode::SUCCESS,

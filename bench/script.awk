@@ -1,6 +1,6 @@
 # Writes the script of bench/margin.sh: a full house of 8 products, 24 series and 32 accounts with lots in several series,
 # some orders and margin calls open, and then -v count=N prints and figures by turns. It writes the same script each time.
-# It also sets up the other rules' house, by -v rule=gross or larger.
+# -v rule=gross or larger takes another margin rule.
 
 function draw(least, most) {
     seed = seed * 16807 % 2147483647
@@ -39,7 +39,7 @@ BEGIN {
     }
     print "opening"
     for (a = 0; a < 32; a++) {
-        print "deposit", a, draw(200000000, 400000000)
+        print "deposit", a, draw(55000000, 90000000)
         # A lot or more in twelve series of all products, and two calendar spreads.
         for (i = 0; i < 12; i++) {
             s = (a + i * 2 + int(i / 4)) % 24
@@ -53,7 +53,7 @@ BEGIN {
     # A close that moves far enough for some margin calls.
     line = "closing"
     for (s = 0; s < 24; s++) {
-        mark[s] += draw(-9000, 9000)
+        mark[s] += draw(-15000, 15000)
         line = line " " mark[s]
     }
     print line

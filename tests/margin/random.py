@@ -377,7 +377,7 @@ class Script:
                 sign, digits = ("-", parts[i][1:]) if parts[i][0] == "-" else ("", parts[i])
                 parts[i] = sign + "0" * r.choice([1, 2, 19, 20, 40]) + digits
         line = blank(0) + parts[0] + "".join(blank(1) + part for part in parts[1:]) + blank(0)
-        line += r.choice(["", "", "#", "# a remark", "#1 2 3", "## # \x01 \xff"]) + r.choice(["", "", "\r"])
+        line += r.choice(["", "", "#", "# a remark", "#1 2 3", "## # \x01 \xff"]) + r.choice(["", "", "\r", "\r\r"])
         return self.raw(line.encode("latin-1"))
 
     def granted(self, *words):
@@ -385,7 +385,8 @@ class Script:
 
     def empty_line(self):
         self.raw(self.rng.choice([
-            b"", b" ", b"\t", b" \t \r", b"\r", b"#", b"# a remark", b"   # print 0 1", b"#\r", b"\t#\xff\xfe\x00", b"##"]))
+            b"", b" ", b"\t", b" \t \r", b"\r", b"#", b"# a remark", b"   # print 0 1", b"#\r", b"\t#\xff\xfe\x00", b"##",
+            b"\r\r", b"\f"]))
 
     def hostile_line(self):
         """A call with something wrong about it, mostly."""
@@ -916,13 +917,13 @@ def poor():
         lines += [f"check 0 0 -1000 -", f"send {number}", f"fill {number} 1 -",
                   f"check 0 0 1000 -", f"send {number + 1}", f"fill {number + 1} 10000000 -"]
         number += 2
-    # Equity is now 485,000,000,000 - 10^17 at the highest price, and 5,000,000 less for each hundredth below it.
+    # Equity is now 485,000,000,000 - 10^17 at the mark 5,000,000, and 5,000,000 less for each hundredth below it.
     lines += ["figures 0", "check 0 0 1 -", "check 0 0 -1000 -", f"cancel {number}", f"drop {number}", "withdraw 0 1",
-              "closing 1", "closing 9902999", "closing 9903000", "figures 0", "opening", "figures 0",
-              "deposit 0 1000000000000", "withdraw 0 1", "check 0 0 -1000 -", "check 0 0 -999 -", "check 0 0 -1 -",
-              "check 0 0 -403 -", "send 1", "fill 1 1 -", "figures 0", "print 0 10000000", "figures 0", "closing 5000000",
-              "closing 10000000", "figures 0", "opening", "figures 0", "check 0 0 -499 -", "send 1", "fill 1 10000000 -",
-              "figures 0", "closing 1", "opening", "figures 0", "check 0 0 1 -", "deposit 0 1", "figures 0"]
+              "closing 1", "closing 9903000", "figures 0", "opening", "figures 0", "deposit 0 1000000000000",
+              "withdraw 0 1", "check 0 0 -1000 -", "check 0 0 -999 -", "check 0 0 -1 -", "drop 1", "check 0 0 -1 -",
+              "send 2", "fill 2 1 -", "figures 0", "closing 5000000", "closing 9900000", "figures 0", "opening",
+              "figures 0", "check 0 0 -998 -", "check 0 0 -499 -", "send 1", "fill 1 10000000 -", "figures 0", "closing 1",
+              "opening", "figures 0", "check 0 0 1 -", "deposit 0 1", "figures 0"]
     return lines
 
 
@@ -1062,8 +1063,7 @@ def table(engine, title, scripts):
     total = 0
     for script in scripts:
         answers = subprocess.run([engine], input=script, stdout=subprocess.PIPE, check=True).stdout.split(b"\n")[:-1]
-        blank = re.compile(rb"[ \t\r\x0c]*(#.*)?\Z", re.S)
-        asked = [line for line in script.split(b"\n") if not blank.match(line)]
+        asked = [line for line in script.split(b"\n") if not BLANK.match(line)]
         assert len(asked) == len(answers), (len(asked), len(answers))
         total += len(answers)
         most = 0
@@ -1095,7 +1095,7 @@ def table(engine, title, scripts):
 
 # Comparison.
 
-BLANK = re.compile(rb"[ \t]*(#.*)?\r?\Z", re.S)
+BLANK = re.compile(rb"[ \t\r\x0c]*(#.*)?\Z", re.S)
 
 
 def difference(script, one, other):
