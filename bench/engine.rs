@@ -781,10 +781,10 @@ fn run_script(input: &mut impl BufRead, out: &mut impl Write) -> io::Result<()> 
 }
 
 fn main() -> ExitCode {
-    let mut output = BufWriter::with_capacity(1 << 16, io::stdout().lock());
+    let mut output = BufWriter::new(io::stdout().lock());
     let result = match std::env::args_os().nth(1) {
-        None => run_script(&mut BufReader::with_capacity(1 << 16, io::stdin().lock()), &mut output),
-        Some(name) => File::open(name).and_then(|file| run_script(&mut BufReader::with_capacity(1 << 16, file), &mut output)),
+        None => run_script(&mut BufReader::new(io::stdin().lock()), &mut output),
+        Some(name) => File::open(name).and_then(|file| run_script(&mut BufReader::new(file), &mut output)),
     };
     match result {
         Ok(()) => ExitCode::SUCCESS,

@@ -6,7 +6,7 @@ use Rattle.book.specs.WorkedCalls.{Worked-closing, Worked-next-day, Worked-rel
 use Rattle.book.specs.WorkedForced.{Worked-due, Worked-sheet, Worked-pair}
 use Rattle.book.specs.WorkedUnits.{Worked-choice, Worked-lines, Worked-joining}
 use Rattle.book.specs.WorkedRefusals.{Worked-entering, Worked-money, Worked-ending-a-day, Worked-forced-refusals, Worked-states}
-use Rattle.book.specs.WorkedOrders.{Worked-check, Worked-opposite-lot, Worked-orders, Worked-needs}
+use Rattle.book.specs.WorkedOrders.{Worked-check, Worked-opposite-lot, Worked-orders, Worked-needs, Worked-two-accounts, Worked-sides}
 use Rattle.book.specs.Worked.{Worked-cases}
 use Rattle.book.proofs.CasesOpen.{all-definitions}
 
@@ -121,6 +121,16 @@ needs Gross = search
 needs LargerSide = search
 needs Pairs = search
 
+two-accounts : (rule : RuleChoice) → Worked-two-accounts rule
+unfolding all-definitions
+two-accounts Gross = search
+two-accounts LargerSide = search
+two-accounts Pairs = search
+
+sides : Worked-sides
+unfolding all-definitions
+sides = search
+
 pub worked : Worked-cases
 worked = record {
   levels = levels;
@@ -143,4 +153,6 @@ worked = record {
   opposite-lot = opposite-lot;
   orders = orders;
   needs = needs;
+  two-accounts = two-accounts;
+  sides = sides;
 }

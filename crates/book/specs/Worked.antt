@@ -5,9 +5,9 @@ use Rattle.book.specs.WorkedCalls.{Worked-closing, Worked-next-day, Worked-rel
 use Rattle.book.specs.WorkedForced.{Worked-due, Worked-sheet, Worked-pair}
 use Rattle.book.specs.WorkedUnits.{Worked-choice, Worked-lines, Worked-joining}
 use Rattle.book.specs.WorkedRefusals.{Worked-entering, Worked-money, Worked-ending-a-day, Worked-forced-refusals, Worked-states}
-use Rattle.book.specs.WorkedOrders.{Worked-check, Worked-opposite-lot, Worked-orders, Worked-needs}
+use Rattle.book.specs.WorkedOrders.{Worked-check, Worked-opposite-lot, Worked-orders, Worked-needs, Worked-two-accounts, Worked-sides}
 
--- The cases hold under each margin rule; those of a pair and of an opposite lot name theirs.
+-- The cases hold under each margin rule; those of a pair, of an opposite lot and of the sides name theirs.
 pub record Worked-cases : Type 0 where
   pub levels : Worked-levels
   -- margin calls
@@ -33,3 +33,5 @@ pub record Worked-cases : Type 0 where
   pub opposite-lot : Worked-opposite-lot
   pub orders : (rule : RuleChoice) → Worked-orders rule
   pub needs : (rule : RuleChoice) → Worked-needs rule
+  pub two-accounts : (rule : RuleChoice) → Worked-two-accounts rule
+  pub sides : Worked-sides

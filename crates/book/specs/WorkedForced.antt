@@ -105,3 +105,5 @@ pub record Worked-pair : Type 0 where
   -- a fill at the marks leaves equity as it is
   pub equity-before : equity-after Pairs (pair-held 81_000 82_500) ≡ negsuc 86_249
   pub equity-kept : equity-after Pairs (pair-sold 81_000 82_500) ≡ negsuc 86_249
+  -- a print of one series moves the gain of that one
+  pub print-second : equity-after Pairs (pair-held 82_000 82_500 ++ C.Print 1 82_000 ∷ []) ≡ pos 213_750

@@ -7,14 +7,17 @@ use lib.ListN.{take, replicate}
 use Rattle.std.specs.declared.option.Option.the-variants.{Some, None}
 use Rattle.rules.specs.declared.rule.RuleChoice.{RuleChoice}
 use Rattle.rules.specs.declared.rule.RuleChoice.the-variants.{Gross, LargerSide, Pairs}
+use Rattle.rules.specs.Laws.{Rule}
+use Rattle.rules.specs.Rules.{times}
 use Rattle.book.specs.declared.account.Account.{Account}
 use Rattle.book.specs.declared.refusal.Refusal.the-variants.{OrderOpen, OrderNumbersUsed}
-use Rattle.book.specs.Answer.{Ordered, Refused, Done}
+use Rattle.book.specs.Answer.{Done, Ordered, Told, Refused}
 use Rattle.book.specs.Call as C
 use Rattle.book.specs.Call.{Call}
 use Rattle.book.specs.Market.{flat}
-use Rattle.book.specs.House.{State, Trading, with-phase}
-use Rattle.book.specs.Step.{answers}
+use Rattle.book.specs.Requirements.{requirements}
+use Rattle.book.specs.House.{State, Trading, set-up, account-at, with-phase}
+use Rattle.book.specs.Step.{after, answers}
 use Rattle.book.specs.WorkedRuns.{Granted, No, _gets_, Runs, house-number, house-after, answer-after, account-after, free-after, traded, first-opening, second-day, with-call}
 
 -- Two products of the SET50 margins, two series of the first and one of the second, two accounts, and the first day opened.
@@ -221,3 +224,30 @@ pub record Worked-needs (rule : RuleChoice) : Type 0 where
   pub second-product : free-after rule (two-margins ++ C.Check 0 1 (pos 1) None ∷ []) ≡ pos 1_810_000
   pub new-rates : free-after rule (two-margins ++ traded 1 0 (pos 1) 83_000 ++ traded 2 1 (pos 1) 50_000 ++ C.Closing (83_000 ∷ 50_000 ∷ []) ∷ C.Rates 1 200_000 50_000 ∷ [])
       ≡ pos 765_000
+
+-- Two accounts with deposits, of which the second buys a lot and withdraws.
+abbrev pub second-trades : List Call
+second-trades =
+    three-series ++ C.Deposit 0 1_000_000 ∷ C.Deposit 1 2_000_000 ∷ C.Check 1 0 (pos 1) None ∷ C.Send house-number 1
+    ∷ C.Fill 1 83_000 None ∷ C.Withdrawal 1 100_000 ∷ []
+
+-- What one account does leaves the other as it is.
+pub record Worked-two-accounts (rule : RuleChoice) : Type 0 where
+  pub first : answer-after rule second-trades (C.Figures 0)
+      ≡ Told (record { equity = pos 1_000_000; initial = 0; maintenance = 0; force = 0; free = pos 1_000_000; call = None })
+  pub second : answer-after rule second-trades (C.Figures 1)
+      ≡ Told (record { equity = pos 1_900_000; initial = 855_000; maintenance = 598_500; force = 256_500; free = pos 1_045_000; call = None })
+
+-- A rule that charges the long lots alone tells the two sides apart.
+abbrev pub long-lots-alone : Rule
+long-lots-alone outright spread l s = times l outright
+
+-- Under it, an account long of two lots of a series and short of one lot of another.
+abbrev pub both-sides : State
+both-sides =
+    after (set-up house-number long-lots-alone)
+    (three-series ++ C.Deposit 0 10_000_000 ∷ traded 1 0 (pos 2) 83_000 ++ traded 2 1 (negsuc 0) 83_000)
+
+-- The lots long are given to a margin rule before the lots short.
+pub record Worked-sides : Type 0 where
+  pub long-before-short : requirements (both-sides .market) (account-at both-sides 0 .positions) ≡ (1_710_000, 1_197_000, 513_000)

@@ -30,12 +30,17 @@ pub record Stake : Type 0 where
 abbrev pub stake : ℕ → ℤ → ℤ → ℕ → Stake
 stake product net loss takes = record { product = product; net = net; loss = loss; takes = takes }
 
--- Every series has multiplier 1 and mark 1,000, so that the loss of a position is its carry less net lots × 1,000.
+-- Long lots are marked at 2,000 and short ones at 1,000.
+abbrev pub mark-for : ℤ → ℕ
+mark-for (pos n) = 2_000
+mark-for (negsuc n) = 1_000
+
+-- Every series has multiplier 1, so that the loss of a position is its carry less net lots × mark.
 abbrev pub series-of : Stake → Series
-series-of h = record { product = h .product; multiplier = 1; quote = settled 1_000 }
+series-of h = record { product = h .product; multiplier = 1; quote = settled (mark-for (h .net)) }
 
 abbrev pub position-of : Stake → Position
-position-of h = record { net = h .net; carry = h .net *ℤ pos 1_000 +ℤ h .loss }
+position-of h = record { net = h .net; carry = h .net *ℤ pos (mark-for (h .net)) +ℤ h .loss }
 
 -- A trading house with two products of the SET50 margins, these series, and one account with a call of this amount that is due.
 abbrev pub house-holding : RuleChoice → ℕ → List Stake → State
