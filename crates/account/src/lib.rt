@@ -1,4 +1,6 @@
 //! One account at a time: its equity balance, its requirements, what its orders need, and its margin call.
+#![tactic(auto)]
+
 pub mod calls;
 pub mod equity;
 pub mod figures;

@@ -1,4 +1,6 @@
 //! Giving the calls of a script to a house, and keeping the tickets in hand.
+#![tactic(auto)]
+
 pub mod calls;
 pub mod reply;
 pub mod session;

@@ -1,4 +1,6 @@
 //! A house: the calls on products, series and accounts, generic over the margin rule.
+#![tactic(auto)]
+
 mod accounts;
 mod cash;
 mod closing;

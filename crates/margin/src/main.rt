@@ -1,4 +1,6 @@
 //! Runs a script of calls on a house, and prints one answer a line.
+#![tactic(auto)]
+
 use desk::reply::Reply;
 use desk::session::Session;
 use script::answer::{

@@ -1,4 +1,6 @@
 //! Two days of an account with two lots. Closing takes the trading house away, so that no price can be printed on it overnight.
+#![tactic(auto)]
+
 ghost use Rattle.std.specs.Prelude.{◌≡◌, ◌<◌, vec_len, vec_capacity};
 
 use book::account::Figures;

@@ -1,6 +1,8 @@
 //! Works out a published table of margin rates again from its risk margins, and compares every figure.
 //!
 //! A line has the kind, the risk margin in satang, the initial, maintenance and force levels in baht, and a name.
+#![tactic(auto)]
+
 ghost use Rattle.std.specs.Prelude.{◌≡◌, Decides};
 ghost use Rattle.sheet.specs.Amount.{baht, right_aligned};
 ghost use Rattle.sheet.specs.Word.{trimmed};

@@ -1,4 +1,6 @@
 //! Reads a rate sheet from standard input, and prints the margin levels of each product in baht per lot.
+#![tactic(auto)]
+
 use sheet::layout::{HEADER, put_row};
 use sheet::row::read_row;
 use std::io;

@@ -1,4 +1,6 @@
 //! Margin levels of one lot, and the margin rules that turn the lots on two sides of a product into margin levels.
+#![tactic(auto)]
+
 pub mod freed;
 pub mod levels;
 pub mod rule;

@@ -1,4 +1,6 @@
 //! How a line of a script names a call on a house, and how an answer is printed.
+#![tactic(auto)]
+
 pub mod answer;
 pub mod command;
 mod digits;

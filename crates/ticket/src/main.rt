@@ -1,4 +1,6 @@
 //! Checks an order and sends it. The ticket of a checked order cannot be lost: it is spent, or it ends with its house.
+#![tactic(auto)]
+
 ghost use Rattle.std.specs.Prelude.{◌<◌, vec_len, vec_capacity};
 
 use book::refusal::Refusal;
