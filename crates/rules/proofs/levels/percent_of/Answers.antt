@@ -3,7 +3,7 @@ use Rattle.std.proofs.Common.{◌*◌, arith}
 use Rattle.std.proofs.lemmas.Nat.{mul-le}
 use Rattle.rules.proofs.levels.percent_of.Goals as goal
 
-pub overflow-cast-result-3 : goal.overflow-cast-result-3
-overflow-cast-result-3 c =
+pub overflow_cast-result-3 : goal.overflow_cast-result-3
+overflow_cast-result-3 c =
     let most = mul-le c.args.risk c.args.rate 500_000_000 190 (omega arith) (omega arith) in
     omega (arith, most)
