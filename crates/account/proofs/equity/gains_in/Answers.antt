@@ -12,18 +12,18 @@ loop-i-preserved c =
     let ss = c.args.series.now in
     let ps = c.args.positions.now in
     let i = c.loop-i.i in
-    let v = c.gain-in.result in
+    let v = c.gain_in.result in
     let r = c.add-sum.result in
-    let back = to_z-of_z w128 r (record { sfits = c.add-sum.type-inv }) in
-    let vb = to_z-of_z w128 v (record { sfits = c.gain-in.type-inv }) in
+    let back = to_z-of_z w128 r (record { sfits = c.add-sum.type_inv }) in
+    let vb = to_z-of_z w128 v (record { sfits = c.gain_in.type_inv }) in
     let within : i < length (holdings ss ps) = omega (arith, length_holdings ss ps c.requires.room, c.loop-i-test.true) in
     let more = gains_more (holdings ss ps) i within in
     let here = ap gain (holding_at ss ps i c.loop-i-test.true c.requires.room) in
     let i0 = c.loop-i.invariant.0 in
     let e = c.add-sum.ensures.value in
-    let w = c.gain-in.ensures.value in (
+    let w = c.gain_in.ensures.value in (
       (cc),
-      omega (arith, ap nat_abs back, c.add-sum.ensures.size, ap nat_abs c.loop-i.sum-is, ap nat_abs vb, c.gain-in.ensures.size, c.loop-i.invariant.1),
+      omega (arith, ap nat_abs back, c.add-sum.ensures.size, ap nat_abs c.loop-i.sum-is, ap nat_abs vb, c.gain_in.ensures.size, c.loop-i.invariant.1),
     )
 
 pub returns : goal.returns

@@ -4,8 +4,8 @@ use Rattle.std.proofs.lemmas.Int.{ints, to_z-of_z}
 use Rattle.account.proofs.Sizes.{abs_product}
 use Rattle.account.proofs.equity.scaled.Goals as goal
 
-pub overflow-mul-result : goal.overflow-mul-result
-overflow-mul-result c =
+pub overflow_mul-result : goal.overflow_mul-result
+overflow_mul-result c =
     let k = c.args.multiplier in
     let z = c.args.value in
     let ek : to_z w128 k ≡ pos k = omega (arith, ints) in

@@ -3,8 +3,8 @@ use Rattle.std.proofs.lemmas.Int.{ints, to_z-of_z}
 use Rattle.account.proofs.Sizes.{abs_product}
 use Rattle.account.proofs.equity.value_at.Goals as goal
 
-pub overflow-mul-result : goal.overflow-mul-result
-overflow-mul-result c =
+pub overflow_mul-result : goal.overflow_mul-result
+overflow_mul-result c =
     let a = c.args.lots in
     let p = c.args.price in
     let ea : to_z w64 (of_z w64 (to_z w32 (of_z w32 a))) ≡ a = omega (arith, ints) in

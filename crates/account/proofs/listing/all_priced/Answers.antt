@@ -5,13 +5,13 @@ use Rattle.book.specs.Prices.{price_in_range}
 use Rattle.account.proofs.Listings.{priced_more}
 use Rattle.account.proofs.listing.all_priced.Goals as goal
 
-pub returns-then-not-is-price : goal.returns-then-not-is-price
-returns-then-not-is-price c =
-    priced_more c.args.prices.now c.loop-i.i false c.loop-i-test.true c.if-not-is-price.ensures ∙ c.loop-i.invariant
+pub returns-then-not-is_price : goal.returns-then-not-is_price
+returns-then-not-is_price c =
+    priced_more c.args.prices.now c.loop-i.i false c.loop-i-test.true c.if-not-is_price.ensures ∙ c.loop-i.invariant
 
 pub loop-i-preserved : goal.loop-i-preserved
 loop-i-preserved c =
-    priced_more c.args.prices.now c.loop-i.i true c.loop-i-test.true c.if-not-is-price.ensures ∙ c.loop-i.invariant
+    priced_more c.args.prices.now c.loop-i.i true c.loop-i-test.true c.if-not-is_price.ensures ∙ c.loop-i.invariant
 
 pub returns : goal.returns
 returns c =

@@ -7,12 +7,12 @@ use Rattle.account.proofs.listing.settle_all.Goals as goal
 pub loop-i-init : goal.loop-i-init
 loop-i-init c = settle_none c.args.series.now
 
-pub settled-at-requires : goal.settled-at-requires
-settled-at-requires c = priced_at c.args.prices.now c.requires.priced c.loop-i.i
+pub settled_at-requires : goal.settled_at-requires
+settled_at-requires c = priced_at c.args.prices.now c.requires.priced c.loop-i.i
 
 pub loop-i-preserved : goal.loop-i-preserved
 loop-i-preserved c =
-    settle_more c.args.prices.now c.args.series.now c.loop-i.series c.loop-i.i c.settled-at.result c.loop-i-test.true c.requires.many c.loop-i.invariant c.settled-at.ensures
+    settle_more c.args.prices.now c.args.series.now c.loop-i.series c.loop-i.i c.settled_at.result c.loop-i-test.true c.requires.many c.loop-i.invariant c.settled_at.ensures
 
 pub returns : goal.returns
 returns c =

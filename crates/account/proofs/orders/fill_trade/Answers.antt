@@ -5,8 +5,8 @@ use Rattle.account.specs.Bounds.{SecondFits}
 use Rattle.account.proofs.Fills.{leg_length, leg_other}
 use Rattle.account.proofs.orders.fill_trade.Goals as goal
 
-pub fill-leg-requires-in-Some : goal.fill-leg-requires-in-Some
-fill-leg-requires-in-Some c =
+pub fill_leg-requires-in-Some : goal.fill_leg-requires-in-Some
+fill_leg-requires-in-Some c =
     let ps = c.args.positions.now in
     let t = c.args.trade in
     let j = c.in-Some.second in

@@ -16,10 +16,10 @@ loop-i-preserved c =
     let net = (get_or ps i flat).net in
     let all : length ps ≡ 24 = search rules in
     let back : to_z w32 (of_z w32 net) ≡ net = search rules in
-    let again = to_z-of_z w64 c.value-at.result (record { sfits = c.value-at.type-inv }) in
-    let value = c.value-at.ensures in
-    let mark = c.mark-of.ensures in
-    let new : Position = record { net = to_z w32 (of_z w32 net); carry = to_z w64 (of_z w64 c.value-at.result) } in
+    let again = to_z-of_z w64 c.value_at.result (record { sfits = c.value_at.type_inv }) in
+    let value = c.value_at.ensures in
+    let mark = c.mark_of.ensures in
+    let new : Position = record { net = to_z w32 (of_z w32 net); carry = to_z w64 (of_z w64 c.value_at.result) } in
     let is : new ≡ settled_at ss ps i = cc in (
       ap (λ (x : Position). set c.loop-i.after i x) is ∙ ap (λ (qs : List Position). set qs i (settled_at ss ps i)) c.loop-i.invariant.0 ∙ settle_more ss ps i c.loop-i-test.true (omega (arith, all, c.requires)),
       length-set c.loop-i.after i new ∙ c.loop-i.invariant.1,

@@ -9,7 +9,7 @@ returns-then-call c =
     IfOk-weaker c.put.result _ _
     (λ _ last.
     four_more (vec_items c.args.out.now) (field c.args.call.amount) (field c.args.call.credit) (field c.args.call.age) (codes " low")
-    c.in-ok-put-field.ensures c.in-ok-put-field-2.ensures c.in-ok-put-field-3.ensures last
+    c.in_ok-put_field.ensures c.in_ok-put_field-2.ensures c.in_ok-put_field-3.ensures last
     (sym (ap (λ low. cond low (codes " low") (codes " high")) c.if-call.true)))
     c.put.ensures
 
@@ -18,6 +18,6 @@ returns-else-call c =
     IfOk-weaker c.put-else-call.result _ _
     (λ _ last.
     four_more (vec_items c.args.out.now) (field c.args.call.amount) (field c.args.call.credit) (field c.args.call.age) (codes " high")
-    c.in-ok-put-field.ensures c.in-ok-put-field-2.ensures c.in-ok-put-field-3.ensures last
+    c.in_ok-put_field.ensures c.in_ok-put_field-2.ensures c.in_ok-put_field-3.ensures last
     (sym (ap (λ low. cond low (codes " low") (codes " high")) c.if-call.false)))
     c.put-else-call.ensures

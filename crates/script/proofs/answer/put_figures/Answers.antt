@@ -9,5 +9,5 @@ returns c =
     IfOk-weaker c.put-2.result _ _
     (λ _ last.
     three_more (vec_items c.args.out.now) (codes "ok") (figures_fields c.args.figures) (codes "\n")
-    c.in-ok-put.ensures c.in-ok-put-figures-fields.ensures last refl refl refl)
+    c.in_ok-put.ensures c.in_ok-put_figures_fields.ensures last refl refl refl)
     c.put-2.ensures

@@ -10,11 +10,11 @@ pub returns : goal.returns
 returns c =
     let equity : SFits w128 c.args.figures.equity = search rules in
     let free : SFits w128 c.args.figures.free = search rules in
-    IfOk-weaker c.put-any-call.result _ _
+    IfOk-weaker c.put_any_call.result _ _
     (λ _ last.
     four_more (vec_items c.args.out.now) (signed_field c.args.figures.equity) (requirement_fields c.args.figures) (signed_field c.args.figures.free) (any_call_fields c.args.figures.call)
-    (c.in-ok-put-signed-field.ensures ∙ ap (λ z. vec_items c.args.out.now ++ signed_field z) (to_z-of_z w128 c.args.figures.equity equity))
-    c.in-ok-put-requirements.ensures
-    (c.in-ok-put-signed-field-2.ensures ∙ ap (λ z. vec_items c.put-requirements.new.out ++ signed_field z) (to_z-of_z w128 c.args.figures.free free))
+    (c.in_ok-put_signed_field.ensures ∙ ap (λ z. vec_items c.args.out.now ++ signed_field z) (to_z-of_z w128 c.args.figures.equity equity))
+    c.in_ok-put_requirements.ensures
+    (c.in_ok-put_signed_field-2.ensures ∙ ap (λ z. vec_items c.put_requirements.new.out ++ signed_field z) (to_z-of_z w128 c.args.figures.free free))
     last refl)
-    c.put-any-call.ensures
+    c.put_any_call.ensures

@@ -8,8 +8,8 @@ use Rattle.script.proofs.answer.put_signed_field.Goals as goal
 
 pub returns : goal.returns
 returns c =
-    IfOk-weaker c.put-signed.result _ _
+    IfOk-weaker c.put_signed.result _ _
     (λ _ last.
-    two_more (vec_items c.args.out.now) (codes " ") (signed_decimal c.args.number) c.in-ok-put.ensures
+    two_more (vec_items c.args.out.now) (codes " ") (signed_decimal c.args.number) c.in_ok-put.ensures
     (last ∙ ap (λ z. vec_items c.put.new.out ++ signed_decimal z) (to_z-of_z w128 c.args.number c.ranges.number)) refl refl)
-    c.put-signed.ensures
+    c.put_signed.ensures

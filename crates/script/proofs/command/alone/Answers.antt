@@ -3,10 +3,10 @@ use Rattle.script.specs.Commands.{alone}
 use Rattle.script.proofs.Splits.{words_none, words_more}
 use Rattle.script.proofs.command.alone.Goals as goal
 
-pub returns-then-is-empty : goal.returns-then-is-empty
-returns-then-is-empty c =
-    sym (ap (alone c.args.command) (words_none c.args.text.now (true-eqb _ 0 c.if-is-empty.ensures)))
+pub returns-then-is_empty : goal.returns-then-is_empty
+returns-then-is_empty c =
+    sym (ap (alone c.args.command) (words_none c.args.text.now (true-eqb _ 0 c.if-is_empty.ensures)))
 
-pub returns-else-is-empty : goal.returns-else-is-empty
-returns-else-is-empty c =
-    sym (ap (alone c.args.command) (words_more c.args.text.now (false-eqb _ 0 c.if-is-empty.ensures)))
+pub returns-else-is_empty : goal.returns-else-is_empty
+returns-else-is_empty c =
+    sym (ap (alone c.args.command) (words_more c.args.text.now (false-eqb _ 0 c.if-is_empty.ensures)))

@@ -8,6 +8,6 @@ pub returns : goal.returns
 returns t c =
     IfOk-weaker c.put.result _ _
     (λ _ last.
-    two_more (vec_items c.args.out.now) (decimal (c.args.number / 10)) ((48 + c.args.number % 10) ∷ []) c.in-ok-put-wide.ensures last refl refl
+    two_more (vec_items c.args.out.now) (decimal (c.args.number / 10)) ((48 + c.args.number % 10) ∷ []) c.in_ok-put_wide.ensures last refl refl
     ∙ ap (λ t. vec_items c.args.out.now ++ t) (sym (decimal_wide c.args.number (omega arith) (omega arith))))
     c.put.ensures

@@ -6,18 +6,18 @@ use Rattle.sheet.proofs.Appends.{two_more}
 use Rattle.script.proofs.Glyphs.{signed_below, signed_above}
 use Rattle.script.proofs.digits.put_signed.Goals as goal
 
-pub returns-in-ok-put : goal.returns-in-ok-put
-returns-in-ok-put c =
-    IfOk-weaker c.put-wide.result _ _
+pub returns-in_ok-put : goal.returns-in_ok-put
+returns-in_ok-put c =
+    IfOk-weaker c.put_wide.result _ _
     (λ _ last.
-    two_more (vec_items c.args.out.now) (45 ∷ []) (decimal c.unsigned-abs-size.result) c.in-ok-put.ensures last refl refl
-    ∙ ap (λ t. vec_items c.args.out.now ++ t) (sym (signed_below c.args.number _ c.unsigned-abs-size.result (to_z-of_z w128 c.args.number c.ranges.number) c.if-number-lt0.true c.unsigned-abs-size.ensures.value)))
-    c.put-wide.ensures
+    two_more (vec_items c.args.out.now) (45 ∷ []) (decimal c.unsigned_abs-size.result) c.in_ok-put.ensures last refl refl
+    ∙ ap (λ t. vec_items c.args.out.now ++ t) (sym (signed_below c.args.number _ c.unsigned_abs-size.result (to_z-of_z w128 c.args.number c.ranges.number) c.if-number-lt0.true c.unsigned_abs-size.ensures.value)))
+    c.put_wide.ensures
 
 pub returns-else-number-lt0 : goal.returns-else-number-lt0
 returns-else-number-lt0 c =
-    IfOk-weaker c.put-wide-else-number-lt0.result _ _
+    IfOk-weaker c.put_wide-else-number-lt0.result _ _
     (λ _ last.
     last
-    ∙ ap (λ t. vec_items c.args.out.now ++ t) (sym (signed_above c.args.number _ c.unsigned-abs-size.result (to_z-of_z w128 c.args.number c.ranges.number) c.if-number-lt0.false c.unsigned-abs-size.ensures.value)))
-    c.put-wide-else-number-lt0.ensures
+    ∙ ap (λ t. vec_items c.args.out.now ++ t) (sym (signed_above c.args.number _ c.unsigned_abs-size.result (to_z-of_z w128 c.args.number c.ranges.number) c.if-number-lt0.false c.unsigned_abs-size.ensures.value)))
+    c.put_wide-else-number-lt0.ensures

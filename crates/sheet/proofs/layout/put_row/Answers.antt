@@ -11,8 +11,8 @@ returns c =
     let spread = level_cells c.args.row.spread in
     IfOk-weaker c.put.result _ _
     (λ _ last.
-    two_more (vec_items c.args.out.now) name (outright ++ (spread ++ 10 ∷ [])) c.in-ok-put-name.ensures
-    (three_more (vec_items c.put-name.new.out) outright spread (10 ∷ [])
-    c.in-ok-put-levels.ensures c.in-ok-put-levels-2.ensures last refl refl refl)
+    two_more (vec_items c.args.out.now) name (outright ++ (spread ++ 10 ∷ [])) c.in_ok-put_name.ensures
+    (three_more (vec_items c.put_name.new.out) outright spread (10 ∷ [])
+    c.in_ok-put_levels.ensures c.in_ok-put_levels-2.ensures last refl refl refl)
     refl refl)
     c.put.ensures

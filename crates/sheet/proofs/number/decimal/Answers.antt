@@ -3,8 +3,8 @@ use Rattle.sheet.specs.Number.{value_after}
 use Rattle.sheet.proofs.Numerals.{digits_parts, digit_bounds, value_front, value_end, value_ge, decimal_fits, decimal_too_large}
 use Rattle.sheet.proofs.number.decimal.Goals as goal
 
-pub overflow-sub-digit : goal.overflow-sub-digit
-overflow-sub-digit c = (digit_bounds _ (digits_parts _ _ c.loop-b-test.true c.loop-b.invariant.0).0).0
+pub overflow_sub-digit : goal.overflow_sub-digit
+overflow_sub-digit c = (digit_bounds _ (digits_parts _ _ c.loop-b-test.true c.loop-b.invariant.0).0).0
 
 pub returns-then-number-digit : goal.returns-then-number-digit
 returns-then-number-digit c =
@@ -14,7 +14,7 @@ returns-then-number-digit c =
     let d : (48 ≤ get_or t i 0) × (get_or t i 0 ≤ 57) = digit_bounds _ (digits_parts t i c.loop-b-test.true c.loop-b.invariant.0).0 in
     let same : value_after 0 t ≡ value_after (n * 10 + (get_or t i 0 - 48)) (drop (i + 1) t)
     = sym c.loop-b.invariant.1 ∙ value_front n t i c.loop-b-test.true in
-    decimal_too_large t (omega (arith, false-eqb _ 0 c.if-is-empty.ensures)) c.if-not-all-digits.ensures
+    decimal_too_large t (omega (arith, false-eqb _ 0 c.if-is_empty.ensures)) c.if-not-all_digits.ensures
     (omega (arith, d, same, value_ge (n * 10 + (get_or t i 0 - 48)) (drop (i + 1) t), c.if-number-digit.true))
 
 pub loop-b-preserved : goal.loop-b-preserved
@@ -30,5 +30,5 @@ loop-b-preserved c =
 pub returns : goal.returns
 returns c =
     let t = c.args.text.now in
-    decimal_fits t _ (omega (arith, false-eqb _ 0 c.if-is-empty.ensures)) c.if-not-all-digits.ensures
+    decimal_fits t _ (omega (arith, false-eqb _ 0 c.if-is_empty.ensures)) c.if-not-all_digits.ensures
     (sym (value_end c.loop-b.number t _ c.loop-b-test.false) ∙ c.loop-b.invariant.1) c.loop-b.invariant.2

@@ -3,12 +3,12 @@ use Rattle.sheet.specs.Word.{solid}
 use Rattle.sheet.proofs.Blanks.{leading_is}
 use Rattle.sheet.proofs.word.word_len.Goals as goal
 
-pub returns-then-is-ascii-whitespace : goal.returns-then-is-ascii-whitespace
-returns-then-is-ascii-whitespace c = record {
+pub returns-then-is_ascii_whitespace : goal.returns-then-is_ascii_whitespace
+returns-then-is_ascii_whitespace c = record {
   value =
       sym
       (leading_is solid c.args.text.now c.loop-i.i (omega arith) (λ k h. ap not (c.loop-i.invariant k h))
-      (λ _. ap not (sym c.if-is-ascii-whitespace.ensures.value)));
+      (λ _. ap not (sym c.if-is_ascii_whitespace.ensures.value)));
   bound = omega arith;
 }
 

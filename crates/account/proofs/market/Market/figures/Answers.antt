@@ -6,9 +6,9 @@ use Rattle.book.specs.Orders.{free}
 use Rattle.account.specs.View.{the_market}
 use Rattle.account.proofs.market.Market.figures.Goals as goal
 
-pub left-of-free-requires : goal.left-of-free-requires
-left-of-free-requires g c =
-    omega (arith, ap nat_abs (to_z-of_z w128 c.equity-equity.result (record { sfits = c.equity-equity.type-inv })), c.equity-equity.ensures.size)
+pub left_of-free-requires : goal.left_of-free-requires
+left_of-free-requires g c =
+    omega (arith, ap nat_abs (to_z-of_z w128 c.equity-equity.result (record { sfits = c.equity-equity.type_inv })), c.equity-equity.ensures.size)
 
 pub returns : goal.returns
 unfolding free
@@ -18,9 +18,9 @@ returns g c =
     let v = c.requirements-initial.ensures.value in
     let e = c.equity-equity.ensures.value in
     let n = c.needs.ensures.value in
-    let back = to_z-of_z w128 c.equity-equity.result (record { sfits = c.equity-equity.type-inv }) in
-    let again = to_z-of_z w128 c.left-of-free.result (record { sfits = c.left-of-free.type-inv }) in
-    let f = c.left-of-free.ensures.value in
+    let back = to_z-of_z w128 c.equity-equity.result (record { sfits = c.equity-equity.type_inv }) in
+    let again = to_z-of_z w128 c.left_of-free.result (record { sfits = c.left_of-free.type_inv }) in
+    let f = c.left_of-free.ensures.value in
     let equity-is : to_z w128 (of_z w128 c.equity-equity.result) ≡ equity m x = cc in
-    let free-is : to_z w128 (of_z w128 c.left-of-free.result) ≡ free m x = cc in
+    let free-is : to_z w128 (of_z w128 c.left_of-free.result) ≡ free m x = cc in
     cc

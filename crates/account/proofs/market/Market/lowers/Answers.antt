@@ -5,5 +5,5 @@ pub returns : goal.returns
 unfolding lowers
 returns g c =
     let before = c.imr-before.ensures.value in
-    let after = c.requirements-after-after.ensures.value in
+    let after = c.requirements_after-after.ensures.value in
     cc

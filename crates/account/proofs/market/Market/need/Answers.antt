@@ -6,6 +6,6 @@ pub returns : goal.returns
 unfolding orders.need
 returns g c =
     let before = c.imr-before.ensures.value in
-    let after = c.requirements-after-after.ensures.value in
-    let e = c.saturating-sub.ensures in
-    record { value = cc; size = omega (arith, e, c.requirements-after-after.ensures.size) }
+    let after = c.requirements_after-after.ensures.value in
+    let e = c.saturating_sub.ensures in
+    record { value = cc; size = omega (arith, e, c.requirements_after-after.ensures.size) }

@@ -4,10 +4,10 @@ use Rattle.book.specs.Orders.{order_need, rules}
 use Rattle.account.specs.View.{the_market}
 use Rattle.account.proofs.market.Market.needs.Goals as goal
 
-pub overflow-add-sum : goal.overflow-add-sum
-overflow-add-sum g c =
+pub overflow_add-sum : goal.overflow_add-sum
+overflow_add-sum g c =
     let few : length c.args.account.now.orders ≤ 8 = search known in
-    omega (arith, few, c.loop-i.invariant.1, c.order-need-sum.ensures.size, c.loop-i-test.true)
+    omega (arith, few, c.loop-i.invariant.1, c.order_need-sum.ensures.size, c.loop-i-test.true)
 
 pub loop-i-preserved : goal.loop-i-preserved
 loop-i-preserved g c =
@@ -16,8 +16,8 @@ loop-i-preserved g c =
     let i = c.loop-i.i in
     let more : rules m x (drop i x.orders) ≡ order_need m x (get_or x.orders i None) + rules m x (drop (i + 1) x.orders) =
     at_drop_more (rules m x) x.orders i None c.loop-i-test.true in (
-      omega (arith, more, c.loop-i.invariant.0, c.order-need-sum.ensures.value),
-      omega (arith, c.loop-i.invariant.1, c.order-need-sum.ensures.size),
+      omega (arith, more, c.loop-i.invariant.0, c.order_need-sum.ensures.value),
+      omega (arith, c.loop-i.invariant.1, c.order_need-sum.ensures.size),
     )
 
 pub returns : goal.returns

@@ -5,14 +5,14 @@ use Rattle.account.specs.View.{the_market, with_series}
 use Rattle.account.proofs.Listings.{rewritten, rewritten_known, open_length, open_products}
 use Rattle.account.proofs.market.Market.open.Goals as goal
 
-pub invariant-of-self : goal.invariant-of-self
-invariant-of-self g c =
+pub invariant_of-self : goal.invariant_of-self
+invariant_of-self g c =
     let m = c.args.self.now in
-    let known = rewritten_known open_prices open_length open_products m.series _ _ (vec_len m.products) c.as-mut-slice.ensures.value c.open-all.ensures m.known in
+    let known = rewritten_known open_prices open_length open_products m.series _ _ (vec_len m.products) c.as_mut_slice.ensures.value c.open_all.ensures m.known in
     (m.few_products, (m.few_series, (m.product_room, (m.series_room, (m.fits, (known, tt))))))
 
 pub returns : goal.returns
 returns g c =
     let m = c.args.self.now in
     ap (λ (ss : List Series). with_series ss (the_market g.R.MarginRule.meaning m))
-    (rewritten open_prices open_length m.series _ _ c.as-mut-slice.ensures.value c.open-all.ensures)
+    (rewritten open_prices open_length m.series _ _ c.as_mut_slice.ensures.value c.open_all.ensures)

@@ -18,6 +18,6 @@ returns g c =
     let under = charged_under f (g.met.R.MarginRule.ordered m.rule) (margins_at (vec_items v) q) l s (m.fits q _ c.requires.there) (c.requires.most q).0 (c.requires.most q).1 in
     let e = c.levels.ensures in
     let o = c.of-outright.ensures in
-    let p = c.of_spread.ensures in
+    let p = c.of-spread.ensures in
     let is : c.levels.result ≡ charged f (margins_at (vec_items v) q) l s = cc in
     record { value = is; size = subst (Under (2 ^ 46)) (sym is) under }

@@ -3,12 +3,12 @@ use Rattle.rules.specs.PerLot.{Fits}
 use Rattle.account.proofs.Listings.{pushed}
 use Rattle.account.proofs.market.Market.push_product.Goals as goal
 
-pub invariant-of-self : goal.invariant-of-self
-invariant-of-self g c =
+pub invariant_of-self : goal.invariant_of-self
+invariant_of-self g c =
     let m = c.args.self.now in
     let v = m.products in
-    let w = c.push-reserved.new.self in
-    let e = c.push-reserved.ensures in
+    let w = c.push_reserved.new.self in
+    let e = c.push_reserved.ensures in
     let few : vec_len w ≤ 8 = omega (arith, e.len, c.requires.room) in
     let room : 8 ≤ vec_capacity w = omega (arith, e.capacity, m.product_room) in (
       few,

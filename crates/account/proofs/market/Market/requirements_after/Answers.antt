@@ -7,5 +7,5 @@ requirements-requires g c =
     let m = c.args.self.now in
     let ps = c.args.account.now.positions in
     let all : 24 ≤ length ps = search rules in
-    let f = filled_fits (vec_len m.series) c.args.trade c.mark-at-price.result c.second-mark-second-price.result ps c.fill-trade.new.positions c.fill-trade.ensures m.few_series all c.requires.fits c.requires.nets in
+    let f = filled_fits (vec_len m.series) c.args.trade c.mark_at-price.result c.second_mark-second_price.result ps c.fill_trade.new.positions c.fill_trade.ensures m.few_series all c.requires.fits c.requires.nets in
     record { room = f.room; small = f.small }

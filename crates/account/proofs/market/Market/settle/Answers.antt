@@ -5,11 +5,11 @@ use Rattle.account.specs.View.{the_market, with_series}
 use Rattle.account.proofs.Listings.{rewritten, rewritten_known, settle_length, settle_products}
 use Rattle.account.proofs.market.Market.settle.Goals as goal
 
-pub invariant-of-self : goal.invariant-of-self
-invariant-of-self g c =
+pub invariant_of-self : goal.invariant_of-self
+invariant_of-self g c =
     let m = c.args.self.now in
     let ps = c.args.prices.now in
-    let known = rewritten_known (settle_prices ps) (settle_length ps) (settle_products ps) m.series _ _ (vec_len m.products) c.as-mut-slice.ensures.value c.settle-all.ensures m.known in
+    let known = rewritten_known (settle_prices ps) (settle_length ps) (settle_products ps) m.series _ _ (vec_len m.products) c.as_mut_slice.ensures.value c.settle_all.ensures m.known in
     (m.few_products, (m.few_series, (m.product_room, (m.series_room, (m.fits, (known, tt))))))
 
 pub returns : goal.returns
@@ -17,4 +17,4 @@ returns g c =
     let m = c.args.self.now in
     let ps = c.args.prices.now in
     ap (λ (ss : List Series). with_series ss (the_market g.R.MarginRule.meaning m))
-    (rewritten (settle_prices ps) (settle_length ps) m.series _ _ c.as-mut-slice.ensures.value c.settle-all.ensures)
+    (rewritten (settle_prices ps) (settle_length ps) m.series _ _ c.as_mut_slice.ensures.value c.settle_all.ensures)

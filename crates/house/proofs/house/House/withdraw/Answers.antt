@@ -34,7 +34,7 @@ returns g c =
     let back : to_z w64 (of_z w64 x.cash) ≡ x.cash = search rules in
     let again : to_z w64 (of_z w64 z) ≡ z = search rules in
     let paid = paid_out n x c.with-cash-after.result (to_z w64 (of_z w64 x.cash)) z (to_z w64 (of_z w64 z)) back again c.in-Some.ensures c.with-cash-after.ensures in
-    let free-is = to_z-of_z w128 c.free.result (record { sfits = c.free.type-inv }) ∙ c.free.ensures.value in
+    let free-is = to_z-of_z w128 c.free.result (record { sfits = c.free.type_inv }) ∙ c.free.ensures.value in
     withdraw_granted (trading g.R.MarginRule.meaning c.args.self.now) (trading g.R.MarginRule.meaning c.put.new.self) c.args.account n x c.with-cash-after.result
     c.if-not-has-account.ensures c.if-not-amount-in-range.ensures c.account-at-before.ensures.value c.if-is-some.ensures
     (c.if-not-covers.ensures ∙ ap (λ (f : ℤ). le_z (pos n) f) free-is) paid c.put.ensures
