@@ -67,7 +67,7 @@ fn gains_in(series: &[Series], positions: &[Position]) -> i128
 impl<R: MarginRule> Market<R> {
     /// The equity balance of an account.
     pub fn equity(&self, account: &Account) -> i128
-        ensures value { result ≡ equity (the_market meaning self.now) account.now }
+        ensures value { result ≡ equity (the_market R.meaning self.now) account.now }
         ensures size { unsigned_abs result ≤ 2 ^ 103 }
     {
         let positions: &[Position] = &account.positions;

@@ -13,7 +13,7 @@ impl<R: MarginRule> Market<R> {
     /// An account's equity balance, requirements, free and open call.
     pub fn figures(&self, account: &Account) -> Figures
         requires { Sound (vec_len self.now.series) account.now }
-        ensures { result ≡ figures_of (the_market meaning self.now) account.now }
+        ensures { result ≡ figures_of (the_market R.meaning self.now) account.now }
     {
         let positions: &[Position] = &account.positions;
         let (initial, maintenance, force) = self.requirements(positions);

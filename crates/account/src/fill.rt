@@ -17,7 +17,7 @@ impl<R: MarginRule> Market<R> {
         requires nets { SmallNets account.now.positions }
         requires carries { SmallCarries (2 ^ 60) account.now.positions }
         requires fits { TradeFits (vec_len self.now.series) account.now.positions trade }
-        ensures { result ≡ with_fill (the_market meaning self.now) (filled trade price second_price account.now.positions) account.now }
+        ensures { result ≡ with_fill (the_market R.meaning self.now) (filled trade price second_price account.now.positions) account.now }
     {
         let before: &[Position] = &account.positions;
         let (had, _, _) = self.requirements(before);

@@ -92,7 +92,7 @@ fn gains_at(series: &[Series], prices: &[u64], positions: &[Position]) -> i128
 impl<R: MarginRule + Drop> Market<R> {
     /// A market with no products and no series, and room for 8 and 24.
     pub fn new(heap: Global, rule: R) -> Result<Market<R>, AllocError>
-        ensures { IfOk result (λ m. the_market meaning m ≡ record { rule = meaning rule; products = []; series = [] }) }
+        ensures { IfOk result (λ m. the_market R.meaning m ≡ record { rule = R.meaning rule; products = []; series = [] }) }
     {
         let products = Vec::with_capacity(heap, MAX_PRODUCTS)?;
         let series = Vec::with_capacity(heap, MAX_SERIES)?;
@@ -109,7 +109,7 @@ impl<R: MarginRule> Market<R> {
     pub fn push_product(&mut self, margins: RiskMargins)
         requires room { vec_len self.old.products < 8 }
         requires fits { Fits margins }
-        ensures { the_market meaning self.new ≡ with_products (self.old.products.items ++ margins ∷ []) (the_market meaning self.old) }
+        ensures { the_market R.meaning self.new ≡ with_products (self.old.products.items ++ margins ∷ []) (the_market R.meaning self.old) }
     {
         self.products.push_reserved(margins);
     }
@@ -118,7 +118,7 @@ impl<R: MarginRule> Market<R> {
     pub fn set_product(&mut self, product: usize, margins: RiskMargins)
         requires there { product < vec_len self.old.products }
         requires fits { Fits margins }
-        ensures { the_market meaning self.new ≡ with_products (slice_set self.old.products.items product margins) (the_market meaning self.old) }
+        ensures { the_market R.meaning self.new ≡ with_products (slice_set self.old.products.items product margins) (the_market R.meaning self.old) }
     {
         self.products[product] = margins;
     }
@@ -127,7 +127,7 @@ impl<R: MarginRule> Market<R> {
     pub fn push_series(&mut self, new: Series)
         requires room { vec_len self.old.series < 24 }
         requires known { new.product < vec_len self.old.products }
-        ensures { the_market meaning self.new ≡ with_series (self.old.series.items ++ new ∷ []) (the_market meaning self.old) }
+        ensures { the_market R.meaning self.new ≡ with_series (self.old.series.items ++ new ∷ []) (the_market R.meaning self.old) }
     {
         self.series.push_reserved(new);
     }
@@ -135,14 +135,14 @@ impl<R: MarginRule> Market<R> {
     /// A print of a series.
     pub fn print(&mut self, series: usize, price: u32)
         requires there { series < vec_len self.old.series }
-        ensures { the_market meaning self.new ≡ with_series (slice_set self.old.series.items series (with_quote (printed price (series_at self.old.series.items series).quote) (series_at self.old.series.items series))) (the_market meaning self.old) }
+        ensures { the_market R.meaning self.new ≡ with_series (slice_set self.old.series.items series (with_quote (printed price (series_at self.old.series.items series).quote) (series_at self.old.series.items series))) (the_market R.meaning self.old) }
     {
         self.series[series].quote.last = Some(price);
     }
 
     /// A new day, without prints.
     pub fn open(&mut self)
-        ensures { the_market meaning self.new ≡ with_series (open_prices self.old.series.items) (the_market meaning self.old) }
+        ensures { the_market R.meaning self.new ≡ with_series (open_prices self.old.series.items) (the_market R.meaning self.old) }
     {
         open_all(self.series.as_mut_slice());
     }
@@ -151,7 +151,7 @@ impl<R: MarginRule> Market<R> {
     pub fn settle(&mut self, prices: &[u64])
         requires many { length prices.now ≡ vec_len self.old.series }
         requires priced { all price_in_range prices.now ≡ true }
-        ensures { the_market meaning self.new ≡ with_series (settle_prices prices.now self.old.series.items) (the_market meaning self.old) }
+        ensures { the_market R.meaning self.new ≡ with_series (settle_prices prices.now self.old.series.items) (the_market R.meaning self.old) }
     {
         settle_all(self.series.as_mut_slice(), prices);
     }
@@ -160,7 +160,7 @@ impl<R: MarginRule> Market<R> {
     pub fn equity_at(&self, prices: &[u64], account: &Account) -> i128
         requires many { length prices.now ≡ vec_len self.now.series }
         requires priced { all price_in_range prices.now ≡ true }
-        ensures value { result ≡ equity (with_series (settle_prices prices.now self.now.series.items) (the_market meaning self.now)) account.now }
+        ensures value { result ≡ equity (with_series (settle_prices prices.now self.now.series.items) (the_market R.meaning self.now)) account.now }
     {
         let positions: &[Position] = &account.positions;
         let gains = gains_at(self.series.as_slice(), prices, positions);

@@ -82,7 +82,7 @@ impl<R: MarginRule> Market<R> {
         requires nets { SmallNets account.now.positions }
         requires carries { SmallCarries (2 ^ 60) account.now.positions }
         requires fits { TradeFits (vec_len self.now.series) account.now.positions trade }
-        ensures value { result ≡ requirements (the_market meaning self.now) (filled_now self.now.series.items trade account.now.positions) }
+        ensures value { result ≡ requirements (the_market R.meaning self.now) (filled_now self.now.series.items trade account.now.positions) }
         ensures size { Under (2 ^ 49) result }
     {
         let price = self.mark_at(trade.series);
@@ -96,7 +96,7 @@ impl<R: MarginRule> Market<R> {
     /// The initial requirement of an account.
     fn imr(&self, account: &Account) -> u64
         requires { SmallNets account.now.positions }
-        ensures value { result ≡ imr (the_market meaning self.now) account.now }
+        ensures value { result ≡ imr (the_market R.meaning self.now) account.now }
         ensures size { result ≤ 2 ^ 49 }
     {
         let positions: &[Position] = &account.positions;
@@ -109,7 +109,7 @@ impl<R: MarginRule> Market<R> {
         requires nets { SmallNets account.now.positions }
         requires carries { SmallCarries (2 ^ 60) account.now.positions }
         requires fits { TradeFits (vec_len self.now.series) account.now.positions trade }
-        ensures value { result ≡ need (the_market meaning self.now) trade account.now }
+        ensures value { result ≡ need (the_market R.meaning self.now) trade account.now }
         ensures size { result ≤ 2 ^ 49 }
     {
         let before = self.imr(account);
@@ -122,7 +122,7 @@ impl<R: MarginRule> Market<R> {
         requires nets { SmallNets account.now.positions }
         requires carries { SmallCarries (2 ^ 60) account.now.positions }
         requires fits { TradeFits (vec_len self.now.series) account.now.positions trade }
-        ensures { result ≡ lowers (the_market meaning self.now) trade account.now }
+        ensures { result ≡ lowers (the_market R.meaning self.now) trade account.now }
     {
         let before = self.imr(account);
         let (after, _, _) = self.requirements_after(account, trade);
@@ -134,7 +134,7 @@ impl<R: MarginRule> Market<R> {
         requires nets { SmallNets account.now.positions }
         requires carries { SmallCarries (2 ^ 60) account.now.positions }
         requires fits { OrderFits (vec_len self.now.series) account.now.positions order }
-        ensures value { result ≡ order_need (the_market meaning self.now) account.now order }
+        ensures value { result ≡ order_need (the_market R.meaning self.now) account.now order }
         ensures size { result ≤ 2 ^ 49 }
     {
         match order {
@@ -146,7 +146,7 @@ impl<R: MarginRule> Market<R> {
     /// The needs of all open orders.
     pub(crate) fn needs(&self, account: &Account) -> u64
         requires { Sound (vec_len self.now.series) account.now }
-        ensures value { result ≡ needs (the_market meaning self.now) account.now account.now.orders }
+        ensures value { result ≡ needs (the_market R.meaning self.now) account.now account.now.orders }
         ensures size { result ≤ 2 ^ 52 }
     {
         let orders: &[Option<Order>] = &account.orders;
@@ -160,7 +160,7 @@ impl<R: MarginRule> Market<R> {
     /// The equity balance less the initial requirement and the needs of all open orders.
     pub fn free(&self, account: &Account) -> i128
         requires { Sound (vec_len self.now.series) account.now }
-        ensures value { result ≡ free (the_market meaning self.now) account.now }
+        ensures value { result ≡ free (the_market R.meaning self.now) account.now }
         ensures size { unsigned_abs result ≤ 2 ^ 104 }
     {
         let equity = self.equity(account);

@@ -85,7 +85,7 @@ impl<R: MarginRule> Market<R> {
     fn product_levels(&self, product: usize, sides: &Sides) -> (u64, u64, u64)
         requires there { product < vec_len self.now.products }
         requires most { (q : ℕ) → (slice_index sides.now.long q ≤ 24_000) × (slice_index sides.now.short q ≤ 24_000) }
-        ensures value { result ≡ charged (meaning self.now.rule) (margins_at self.now.products.items product) (slice_index sides.now.long product) (slice_index sides.now.short product) }
+        ensures value { result ≡ charged (R.meaning self.now.rule) (margins_at self.now.products.items product) (slice_index sides.now.long product) (slice_index sides.now.short product) }
         ensures size { Under (2 ^ 46) result }
     {
         let margins = self.products[product];
@@ -98,7 +98,7 @@ impl<R: MarginRule> Market<R> {
     pub fn requirements(&self, positions: &[Position]) -> (u64, u64, u64)
         requires room { 24 ≤ length positions.now }
         requires small { SmallNets positions.now }
-        ensures value { result ≡ requirements (the_market meaning self.now) positions.now }
+        ensures value { result ≡ requirements (the_market R.meaning self.now) positions.now }
         ensures size { Under (2 ^ 49) result }
     {
         let sides = sides_of(self.series.as_slice(), positions);

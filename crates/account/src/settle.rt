@@ -43,8 +43,8 @@ impl<R: MarginRule> Market<R> {
     /// An account settled at the settlement prices, which are the marks.
     pub fn settled(&self, account: &Account) -> Account
         requires nets { SmallNets account.now.positions }
-        requires fits { cash_fits (equity (the_market meaning self.now) account.now) ≡ true }
-        ensures { result ≡ settle_account (the_market meaning self.now) account.now }
+        requires fits { cash_fits (equity (the_market R.meaning self.now) account.now) ≡ true }
+        ensures { result ≡ settle_account (the_market R.meaning self.now) account.now }
     {
         let equity = self.equity(account);
         let before: &[Position] = &account.positions;

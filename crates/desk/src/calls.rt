@@ -14,7 +14,7 @@ use std::alloc::AllocError;
 
 /// A call on a closed house, but for Opening.
 pub fn on_closed<R: MarginRule>(house: &mut Closed<R>, command: Command) -> Reply
-    ensures { Replied (call_of command) (the_closed meaning house.old) result (the_closed meaning house.new) }
+    ensures { Replied (call_of command) (the_closed R.meaning house.old) result (the_closed R.meaning house.new) }
 {
     match command {
         Command::House { number: _, rule: _ } => Reply::Unreadable,
@@ -56,7 +56,7 @@ fn check<R: MarginRule>(
     lots: i64,
     second: Option<u64>,
 ) -> Result<Reply, AllocError>
-    ensures { IfOk result (λ x. Replied (Some (Check account series lots second)) (the_trading meaning house.old) x (the_trading meaning house.new)) }
+    ensures { IfOk result (λ x. Replied (Some (Check account series lots second)) (the_trading R.meaning house.old) x (the_trading R.meaning house.new)) }
 {
     tickets.reserve(1)?;
     match house.check(account, series, lots, second) {
@@ -111,7 +111,7 @@ pub fn on_trading<R: MarginRule>(
     tickets: &mut Vec<Ticket>,
     command: Command,
 ) -> Result<Reply, AllocError>
-    ensures { IfOk result (λ x. Replied (call_of command) (the_trading meaning house.old) x (the_trading meaning house.new)) }
+    ensures { IfOk result (λ x. Replied (call_of command) (the_trading R.meaning house.old) x (the_trading R.meaning house.new)) }
 {
     match command {
         Command::House { number: _, rule: _ } => Ok(Reply::Unreadable),

@@ -12,7 +12,7 @@ use rules::rule::MarginRule;
 impl<R: MarginRule> House<R> {
     /// Whether an account is entered.
     pub(crate) fn has_account(&self, account: u64) -> bool
-        ensures { result ≡ has_account (trading meaning self.now) account }
+        ensures { result ≡ has_account (trading R.meaning self.now) account }
     {
         account < self.accounts.len() as u64
     }
@@ -20,7 +20,7 @@ impl<R: MarginRule> House<R> {
     /// An account that is entered.
     pub(crate) fn account_at(&self, account: usize) -> Account
         requires { account < vec_len self.now.accounts }
-        ensures value { result ≡ account_at (trading meaning self.now) account }
+        ensures value { result ≡ account_at (trading R.meaning self.now) account }
         ensures sound { sound self.now.market.series.items (vec_len self.now.placed) result ≡ true }
         ensures small { Sound (vec_len self.now.market.series) result }
     {
@@ -31,7 +31,7 @@ impl<R: MarginRule> House<R> {
     pub(crate) fn put(&mut self, account: usize, after: Account)
         requires there { account < vec_len self.old.accounts }
         requires sound { sound self.old.market.series.items (vec_len self.old.placed) after ≡ true }
-        ensures { trading meaning self.new ≡ with_account account after (trading meaning self.old) }
+        ensures { trading R.meaning self.new ≡ with_account account after (trading R.meaning self.old) }
     {
         self.accounts[account] = after;
     }

@@ -20,7 +20,7 @@ const LAST_MINUTE: u64 = 1_439;
 impl<R: MarginRule> House<R> {
     /// Sets the minute of the day.
     pub fn clock(&mut self, minute: u64) -> Result<(), Refusal>
-        ensures { step (trading meaning self.old) (Clock minute) ≡ (done result, trading meaning self.new) }
+        ensures { step (trading R.meaning self.old) (Clock minute) ≡ (done result, trading R.meaning self.new) }
     {
         if minute > LAST_MINUTE {
             return Err(Refusal::OutOfRange);
@@ -88,7 +88,7 @@ fn with_cash(account: &Account, cash: i64, call: Option<MarginCall>) -> Account
 impl<R: MarginRule> House<R> {
     /// Adds to an account's cash, and to the credit of its open call.
     pub fn deposit(&mut self, account: u64, amount: u64) -> Result<(), Refusal>
-        ensures { step (trading meaning self.old) (Deposit account amount) ≡ (done result, trading meaning self.new) }
+        ensures { step (trading R.meaning self.old) (Deposit account amount) ≡ (done result, trading R.meaning self.new) }
     {
         if !self.has_account(account) {
             return Err(Refusal::Unknown);
@@ -109,7 +109,7 @@ impl<R: MarginRule> House<R> {
 impl<R: MarginRule> House<R> {
     /// Takes from an account's cash, with no call open and no more than is free.
     pub fn withdraw(&mut self, account: u64, amount: u64) -> Result<(), Refusal>
-        ensures { step (trading meaning self.old) (Withdrawal account amount) ≡ (done result, trading meaning self.new) }
+        ensures { step (trading R.meaning self.old) (Withdrawal account amount) ≡ (done result, trading R.meaning self.new) }
     {
         if !self.has_account(account) {
             return Err(Refusal::Unknown);
@@ -134,8 +134,8 @@ impl<R: MarginRule> House<R> {
 
     /// Tells an account's figures.
     pub fn figures(&self, account: u64) -> Result<Figures, Refusal>
-        ensures trading { step (trading meaning self.now) (FiguresCall account) ≡ (told result, trading meaning self.now) }
-        ensures closed { step (closed meaning self.now) (FiguresCall account) ≡ (told result, closed meaning self.now) }
+        ensures trading { step (trading R.meaning self.now) (FiguresCall account) ≡ (told result, trading R.meaning self.now) }
+        ensures closed { step (closed R.meaning self.now) (FiguresCall account) ≡ (told result, closed R.meaning self.now) }
     {
         if !self.has_account(account) {
             return Err(Refusal::Unknown);

@@ -51,7 +51,7 @@ fn none_open(accounts: &[Account]) -> bool
 fn all_fit<R: MarginRule>(market: &Market<R>, prices: &[u64], accounts: &[Account]) -> bool
     requires many { length prices.now ≡ vec_len market.now.series }
     requires priced { all price_in_range prices.now ≡ true }
-    ensures { result ≡ cash_fits_at (with_series (settle_prices prices.now market.now.series.items) (the_market meaning market.now)) accounts.now }
+    ensures { result ≡ cash_fits_at (with_series (settle_prices prices.now market.now.series.items) (the_market R.meaning market.now)) accounts.now }
 {
     for i in 0..accounts.len() {
         if !cash_fits(market.equity_at(prices, &accounts[i])) {
@@ -63,8 +63,8 @@ fn all_fit<R: MarginRule>(market: &Market<R>, prices: &[u64], accounts: &[Accoun
 
 /// Every account settled at the marks.
 fn settle_all<R: MarginRule>(market: &Market<R>, accounts: &mut [Account])
-    requires { Settleable (the_market meaning market.now) accounts.old }
-    ensures { accounts.new ≡ map (settle_account (the_market meaning market.now)) accounts.old }
+    requires { Settleable (the_market R.meaning market.now) accounts.old }
+    ensures { accounts.new ≡ map (settle_account (the_market R.meaning market.now)) accounts.old }
 {
     for i in 0..accounts.len() {
         accounts[i] = market.settled(&accounts[i]);
@@ -74,7 +74,7 @@ fn settle_all<R: MarginRule>(market: &Market<R>, accounts: &mut [Account])
 impl<R: MarginRule> House<R> {
     /// Settles every account at one price for each series, and ends the day.
     pub(crate) fn closing(&mut self, prices: &[u64]) -> Result<(), Refusal>
-        ensures step { step (trading meaning self.old) (Closing prices.now) ≡ (done result, after_closing meaning result self.new) }
+        ensures step { step (trading R.meaning self.old) (Closing prices.now) ≡ (done result, after_closing R.meaning result self.new) }
         ensures none { NonePlaced result (vec_len self.new.placed) }
     {
         if !none_open(self.accounts.as_slice()) {

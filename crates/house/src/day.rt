@@ -18,7 +18,7 @@ use std::alloc::{AllocError, Global};
 impl<R: MarginRule + Drop> Closed<R> {
     /// Sets a house up, closed, with its number and its margin rule.
     pub fn new(heap: Global, number: u32, rule: R) -> Result<Closed<R>, AllocError>
-        ensures { IfOk result (λ c. the_closed meaning c ≡ set_up number (meaning rule)) }
+        ensures { IfOk result (λ c. the_closed R.meaning c ≡ set_up number (R.meaning rule)) }
     {
         let house = House::blank(heap, number, rule)?;
         Ok(Closed { house })
@@ -28,42 +28,42 @@ impl<R: MarginRule + Drop> Closed<R> {
 impl<R: MarginRule> Closed<R> {
     /// Enters a product with its risk margins, and answers its number.
     pub fn product(&mut self, outright: u64, spread: u64) -> Result<u64, Refusal>
-        ensures { step (the_closed meaning self.old) (Product outright spread) ≡ (entered result, the_closed meaning self.new) }
+        ensures { step (the_closed R.meaning self.old) (Product outright spread) ≡ (entered result, the_closed R.meaning self.new) }
     {
         self.house.product(outright, spread)
     }
 
     /// Replaces both risk margins of a product.
     pub fn rates(&mut self, product: u64, outright: u64, spread: u64) -> Result<(), Refusal>
-        ensures { step (the_closed meaning self.old) (Rates product outright spread) ≡ (done result, the_closed meaning self.new) }
+        ensures { step (the_closed R.meaning self.old) (Rates product outright spread) ≡ (done result, the_closed R.meaning self.new) }
     {
         self.house.rates(product, outright, spread)
     }
 
     /// Enters a series of a product with its multiplier and settlement price, and answers its number.
     pub fn series(&mut self, product: u64, multiplier: u64, price: u64) -> Result<u64, Refusal>
-        ensures { step (the_closed meaning self.old) (SeriesCall product multiplier price) ≡ (entered result, the_closed meaning self.new) }
+        ensures { step (the_closed R.meaning self.old) (SeriesCall product multiplier price) ≡ (entered result, the_closed R.meaning self.new) }
     {
         self.house.series(product, multiplier, price)
     }
 
     /// Enters an account, and answers its number.
     pub fn account(&mut self) -> Result<u64, Refusal>
-        ensures { step (the_closed meaning self.old) AccountCall ≡ (entered result, the_closed meaning self.new) }
+        ensures { step (the_closed R.meaning self.old) AccountCall ≡ (entered result, the_closed R.meaning self.new) }
     {
         self.house.account()
     }
 
     /// Tells an account's figures.
     pub fn figures(&self, account: u64) -> Result<Figures, Refusal>
-        ensures { step (the_closed meaning self.now) (FiguresCall account) ≡ (told result, the_closed meaning self.now) }
+        ensures { step (the_closed R.meaning self.now) (FiguresCall account) ≡ (told result, the_closed R.meaning self.now) }
     {
         self.house.figures(account)
     }
 
     /// Begins a trading day.
     pub fn opening(self) -> Trading<R>
-        ensures { step (the_closed meaning self) Opening ≡ (Done, the_trading meaning result) }
+        ensures { step (the_closed R.meaning self) Opening ≡ (Done, the_trading R.meaning result) }
     {
         let Closed { mut house } = self;
         house.opening();
@@ -74,28 +74,28 @@ impl<R: MarginRule> Closed<R> {
 impl<R: MarginRule> Trading<R> {
     /// Sets the minute of the day.
     pub fn clock(&mut self, minute: u64) -> Result<(), Refusal>
-        ensures { step (the_trading meaning self.old) (Clock minute) ≡ (done result, the_trading meaning self.new) }
+        ensures { step (the_trading R.meaning self.old) (Clock minute) ≡ (done result, the_trading R.meaning self.new) }
     {
         self.house.clock(minute)
     }
 
     /// Sets the last print of a series.
     pub fn print(&mut self, series: u64, price: u64) -> Result<(), Refusal>
-        ensures { step (the_trading meaning self.old) (Print series price) ≡ (done result, the_trading meaning self.new) }
+        ensures { step (the_trading R.meaning self.old) (Print series price) ≡ (done result, the_trading R.meaning self.new) }
     {
         self.house.print(series, price)
     }
 
     /// Adds to an account's cash, and to the credit of its open call.
     pub fn deposit(&mut self, account: u64, amount: u64) -> Result<(), Refusal>
-        ensures { step (the_trading meaning self.old) (Deposit account amount) ≡ (done result, the_trading meaning self.new) }
+        ensures { step (the_trading R.meaning self.old) (Deposit account amount) ≡ (done result, the_trading R.meaning self.new) }
     {
         self.house.deposit(account, amount)
     }
 
     /// Takes from an account's cash.
     pub fn withdraw(&mut self, account: u64, amount: u64) -> Result<(), Refusal>
-        ensures { step (the_trading meaning self.old) (Withdrawal account amount) ≡ (done result, the_trading meaning self.new) }
+        ensures { step (the_trading R.meaning self.old) (Withdrawal account amount) ≡ (done result, the_trading R.meaning self.new) }
     {
         self.house.withdraw(account, amount)
     }
@@ -108,7 +108,7 @@ impl<R: MarginRule> Trading<R> {
         lots: i64,
         second: Option<u64>,
     ) -> Result<Ticket, Refusal>
-        ensures step { step (the_trading meaning self.old) (Check account series lots second) ≡ (ticketed result, the_trading meaning self.new) }
+        ensures step { step (the_trading R.meaning self.old) (Check account series lots second) ≡ (ticketed result, the_trading R.meaning self.new) }
         ensures house { Carries self.old.house.number result }
     {
         let house = self.house.number;
@@ -120,7 +120,7 @@ impl<R: MarginRule> Trading<R> {
 
     /// Sends the order of a ticket; a refused ticket comes back.
     pub fn send(&mut self, ticket: Ticket) -> Result<(), (Ticket, Refusal)>
-        ensures step { step (the_trading meaning self.old) (Send ticket.house ticket.order) ≡ (spent result, the_trading meaning self.new) }
+        ensures step { step (the_trading R.meaning self.old) (Send ticket.house ticket.order) ≡ (spent result, the_trading R.meaning self.new) }
         ensures back { Back ticket result }
     {
         match self.house.send(ticket.house, ticket.order) {
@@ -134,7 +134,7 @@ impl<R: MarginRule> Trading<R> {
 
     /// Ends the order of a ticket; a refused ticket comes back.
     pub fn drop_order(&mut self, ticket: Ticket) -> Result<(), (Ticket, Refusal)>
-        ensures step { step (the_trading meaning self.old) (DropCall ticket.house ticket.order) ≡ (spent result, the_trading meaning self.new) }
+        ensures step { step (the_trading R.meaning self.old) (DropCall ticket.house ticket.order) ≡ (spent result, the_trading R.meaning self.new) }
         ensures back { Back ticket result }
     {
         match self.house.drop_held(ticket.house, ticket.order) {
@@ -148,28 +148,28 @@ impl<R: MarginRule> Trading<R> {
 
     /// Fills a sent order whole.
     pub fn fill(&mut self, order: u64, price: u64, second_price: Option<u64>) -> Result<(), Refusal>
-        ensures { step (the_trading meaning self.old) (Fill order price second_price) ≡ (done result, the_trading meaning self.new) }
+        ensures { step (the_trading R.meaning self.old) (Fill order price second_price) ≡ (done result, the_trading R.meaning self.new) }
     {
         self.house.fill(order, price, second_price)
     }
 
     /// Ends a sent order.
     pub fn cancel(&mut self, order: u64) -> Result<(), Refusal>
-        ensures { step (the_trading meaning self.old) (Cancel order) ≡ (done result, the_trading meaning self.new) }
+        ensures { step (the_trading R.meaning self.old) (Cancel order) ≡ (done result, the_trading R.meaning self.new) }
     {
         self.house.cancel(order)
     }
 
     /// Tells an account's figures.
     pub fn figures(&self, account: u64) -> Result<Figures, Refusal>
-        ensures { step (the_trading meaning self.now) (FiguresCall account) ≡ (told result, the_trading meaning self.now) }
+        ensures { step (the_trading R.meaning self.now) (FiguresCall account) ≡ (told result, the_trading R.meaning self.now) }
     {
         self.house.figures(account)
     }
 
     /// Settles every account and closes the house; a refused one comes back trading, as it was.
     pub fn closing(self, prices: &[u64]) -> Result<Closed<R>, (Trading<R>, Refusal)>
-        ensures { step (the_trading meaning self) (Closing prices.now) ≡ (closing_answer result, moved meaning result) }
+        ensures { step (the_trading R.meaning self) (Closing prices.now) ≡ (closing_answer result, moved R.meaning result) }
     {
         let Trading { mut house } = self;
         match house.closing(prices) {

@@ -80,7 +80,7 @@ fn open_accounts(accounts: &mut [Account])
 impl<R: MarginRule + Drop> House<R> {
     /// A closed house with nothing entered, and room for 32 accounts and a day's orders.
     pub(crate) fn blank(heap: Global, number: u32, rule: R) -> Result<House<R>, AllocError>
-        ensures step { IfOk result (λ h. closed meaning h ≡ set_up number (meaning rule)) }
+        ensures step { IfOk result (λ h. closed R.meaning h ≡ set_up number (R.meaning rule)) }
         ensures kept { IfOk result (λ h. vec_len h.placed ≡ 0) }
     {
         let market = Market::new(heap, rule)?;
@@ -99,14 +99,14 @@ impl<R: MarginRule + Drop> House<R> {
 impl<R: MarginRule> House<R> {
     /// Whether a product is entered.
     fn has_product(&self, product: u64) -> bool
-        ensures { result ≡ has_product (closed meaning self.now) product }
+        ensures { result ≡ has_product (closed R.meaning self.now) product }
     {
         product < self.market.products.len() as u64
     }
 
     /// Enters a product with its risk margins.
     pub(crate) fn product(&mut self, outright: u64, spread: u64) -> Result<u64, Refusal>
-        ensures step { step (closed meaning self.old) (Product outright spread) ≡ (entered result, closed meaning self.new) }
+        ensures step { step (closed R.meaning self.old) (Product outright spread) ≡ (entered result, closed R.meaning self.new) }
         ensures kept { vec_len self.new.placed ≡ vec_len self.old.placed }
     {
         let Some(margins) = margins_of(outright, spread) else {
@@ -122,7 +122,7 @@ impl<R: MarginRule> House<R> {
 
     /// Replaces both risk margins of a product.
     pub(crate) fn rates(&mut self, product: u64, outright: u64, spread: u64) -> Result<(), Refusal>
-        ensures step { step (closed meaning self.old) (Rates product outright spread) ≡ (done result, closed meaning self.new) }
+        ensures step { step (closed R.meaning self.old) (Rates product outright spread) ≡ (done result, closed R.meaning self.new) }
         ensures kept { vec_len self.new.placed ≡ vec_len self.old.placed }
     {
         if !self.has_product(product) {
@@ -142,7 +142,7 @@ impl<R: MarginRule> House<R> {
         multiplier: u64,
         price: u64,
     ) -> Result<u64, Refusal>
-        ensures step { step (closed meaning self.old) (SeriesCall product multiplier price) ≡ (entered result, closed meaning self.new) }
+        ensures step { step (closed R.meaning self.old) (SeriesCall product multiplier price) ≡ (entered result, closed R.meaning self.new) }
         ensures kept { vec_len self.new.placed ≡ vec_len self.old.placed }
     {
         if !self.has_product(product) {
@@ -162,7 +162,7 @@ impl<R: MarginRule> House<R> {
 
     /// Enters an account.
     pub(crate) fn account(&mut self) -> Result<u64, Refusal>
-        ensures step { step (closed meaning self.old) AccountCall ≡ (entered result, closed meaning self.new) }
+        ensures step { step (closed R.meaning self.old) AccountCall ≡ (entered result, closed R.meaning self.new) }
         ensures kept { vec_len self.new.placed ≡ vec_len self.old.placed }
     {
         let number = self.accounts.len();
@@ -176,7 +176,7 @@ impl<R: MarginRule> House<R> {
     /// Begins a day: minute 0, no prints, and each open call a day older.
     pub(crate) fn opening(&mut self)
         requires { vec_len self.old.placed ≡ 0 }
-        ensures { (Done, trading meaning self.new) ≡ step (closed meaning self.old) Opening }
+        ensures { (Done, trading R.meaning self.new) ≡ step (closed R.meaning self.old) Opening }
     {
         self.minute = 0;
         self.market.open();
@@ -185,7 +185,7 @@ impl<R: MarginRule> House<R> {
 
     /// Sets the last print of a series.
     pub fn print(&mut self, series: u64, price: u64) -> Result<(), Refusal>
-        ensures { step (trading meaning self.old) (Print series price) ≡ (done result, trading meaning self.new) }
+        ensures { step (trading R.meaning self.old) (Print series price) ≡ (done result, trading R.meaning self.new) }
     {
         if series >= self.market.series.len() as u64 {
             return Err(Refusal::Unknown);

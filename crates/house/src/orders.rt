@@ -61,13 +61,13 @@ fn net_fits(account: &Account, series: usize, lots: i32) -> bool
 
 impl<R: MarginRule> House<R> {
     fn has_series(&self, series: u64) -> bool
-        ensures { result ≡ has_series (trading meaning self.now) series }
+        ensures { result ≡ has_series (trading R.meaning self.now) series }
     {
         series < self.market.series.len() as u64
     }
 
     fn knows_second(&self, second: Option<u64>) -> bool
-        ensures { result ≡ knows_second (trading meaning self.now) second }
+        ensures { result ≡ knows_second (trading R.meaning self.now) second }
     {
         match second {
             None => true,
@@ -77,7 +77,7 @@ impl<R: MarginRule> House<R> {
 
     /// Whether an account and the series of an order are entered.
     fn knows(&self, account: u64, series: u64, second: Option<u64>) -> bool
-        ensures { result ≡ (has_account (trading meaning self.now) account && (has_series (trading meaning self.now) series && knows_second (trading meaning self.now) second)) }
+        ensures { result ≡ (has_account (trading R.meaning self.now) account && (has_series (trading R.meaning self.now) series && knows_second (trading R.meaning self.now) second)) }
     {
         self.has_account(account) && self.has_series(series) && self.knows_second(second)
     }
@@ -95,7 +95,7 @@ impl<R: MarginRule> House<R> {
     fn second_fits(&self, trade: Trade) -> bool
         requires first { trade.series < vec_len self.now.market.series }
         requires second { Below trade.second (vec_len self.now.market.series) }
-        ensures { result ≡ second_fits (the_market meaning self.now.market) trade.series trade.second }
+        ensures { result ≡ second_fits (the_market R.meaning self.now.market) trade.series trade.second }
     {
         match trade.second {
             None => true,
@@ -107,7 +107,7 @@ impl<R: MarginRule> House<R> {
     fn allowed_under_call(&self, account: &Account, trade: Trade) -> bool
         requires sound { Sound (vec_len self.now.market.series) account.now }
         requires fits { TradeFits (vec_len self.now.market.series) account.now.positions trade }
-        ensures { result ≡ allowed_under_call (the_market meaning self.now.market) trade account.now }
+        ensures { result ≡ allowed_under_call (the_market R.meaning self.now.market) trade account.now }
     {
         account.call.is_none() || self.market.lowers(account, trade)
     }
@@ -116,7 +116,7 @@ impl<R: MarginRule> House<R> {
     fn affordable(&self, account: &Account, trade: Trade) -> bool
         requires sound { Sound (vec_len self.now.market.series) account.now }
         requires fits { TradeFits (vec_len self.now.market.series) account.now.positions trade }
-        ensures { result ≡ affordable (the_market meaning self.now.market) trade account.now }
+        ensures { result ≡ affordable (the_market R.meaning self.now.market) trade account.now }
     {
         let need = self.market.need(account, trade);
         need == 0 || covers(self.market.free(account), need)
@@ -168,10 +168,10 @@ impl<R: MarginRule> House<R> {
         requires there { account < vec_len self.old.accounts }
         requires product { product < 8 }
         requires left { vec_len self.old.placed < 9_999 }
-        requires none { order_in (account_at (trading meaning self.old) account) product ≡ None }
-        requires sound { trade_sound self.old.market.series.items (account_at (trading meaning self.old) account).positions product trade ≡ true }
+        requires none { order_in (account_at (trading R.meaning self.old) account) product ≡ None }
+        requires sound { trade_sound self.old.market.series.items (account_at (trading R.meaning self.old) account).positions product trade ≡ true }
         ensures number { result ≡ suc (length self.old.placed.items) }
-        ensures state { trading meaning self.new ≡ held (trading meaning self.old) self.old.minute self.old.placed.items account product trade }
+        ensures state { trading R.meaning self.new ≡ held (trading R.meaning self.old) self.old.minute self.old.placed.items account product trade }
     {
         let number = self.placed.len() as u32 + 1;
         let before = self.account_at(account);
@@ -198,7 +198,7 @@ impl<R: MarginRule> House<R> {
         lots: i64,
         second: Option<u64>,
     ) -> Result<u64, Refusal>
-        ensures { step (trading meaning self.old) (Check account series lots second) ≡ (ordered result, trading meaning self.new) }
+        ensures { step (trading R.meaning self.old) (Check account series lots second) ≡ (ordered result, trading R.meaning self.new) }
     {
         if !self.knows(account, series, second) {
             return Err(Refusal::Unknown);

@@ -54,7 +54,7 @@ impl<R: MarginRule> House<R> {
     fn order_at(&self, place: Placement) -> Option<Order>
         requires there { place.account < vec_len self.now.accounts }
         requires product { place.product < 8 }
-        ensures { result ≡ order_in (account_at (trading meaning self.now) place.account) place.product }
+        ensures { result ≡ order_in (account_at (trading R.meaning self.now) place.account) place.product }
     {
         self.accounts[place.account].orders[place.product]
     }
@@ -75,8 +75,8 @@ impl<R: MarginRule> House<R> {
 
     /// The open order of a number in a stage, with its place.
     fn find(&self, stage: Stage, number: u64) -> Option<(Placement, Order)>
-        ensures found { as_found result ≡ find_order (trading meaning self.now) self.now.placed.items stage number }
-        ensures there { There (trading meaning self.now) result }
+        ensures found { as_found result ≡ find_order (trading R.meaning self.now) self.now.placed.items stage number }
+        ensures there { There (trading R.meaning self.now) result }
     {
         let Some(place) = self.place_of(number) else {
             return None;
@@ -95,8 +95,8 @@ impl<R: MarginRule> House<R> {
     fn replace(&mut self, place: Placement, order: Option<Order>)
         requires there { place.account < vec_len self.old.accounts }
         requires product { place.product < 8 }
-        requires sound { sound self.old.market.series.items (vec_len self.old.placed) (with_order place.product order (account_at (trading meaning self.old) place.account)) ≡ true }
-        ensures { trading meaning self.new ≡ with_account place.account (with_order place.product order (account_at (trading meaning self.old) place.account)) (trading meaning self.old) }
+        requires sound { sound self.old.market.series.items (vec_len self.old.placed) (with_order place.product order (account_at (trading R.meaning self.old) place.account)) ≡ true }
+        ensures { trading R.meaning self.new ≡ with_account place.account (with_order place.product order (account_at (trading R.meaning self.old) place.account)) (trading R.meaning self.old) }
     {
         let before = self.account_at(place.account);
         self.put(place.account, with_order(&before, place.product, order));
@@ -106,8 +106,8 @@ impl<R: MarginRule> House<R> {
 impl<R: MarginRule> House<R> {
     /// The held order of a ticket, with its place.
     fn held(&self, house: u32, number: u64) -> Option<(Placement, Order)>
-        ensures found { as_found result ≡ held_order (trading meaning self.now) self.now.placed.items house number }
-        ensures there { There (trading meaning self.now) result }
+        ensures found { as_found result ≡ held_order (trading R.meaning self.now) self.now.placed.items house number }
+        ensures there { There (trading R.meaning self.now) result }
     {
         if house == self.number {
             self.find(Stage::Held, number)
@@ -118,7 +118,7 @@ impl<R: MarginRule> House<R> {
 
     /// A held order goes out.
     pub(crate) fn send(&mut self, house: u32, number: u64) -> Result<(), Refusal>
-        ensures { step (trading meaning self.old) (Send house number) ≡ (done result, trading meaning self.new) }
+        ensures { step (trading R.meaning self.old) (Send house number) ≡ (done result, trading R.meaning self.new) }
     {
         let Some((place, order)) = self.held(house, number) else {
             return Err(Refusal::NoSuchOrder);
@@ -129,7 +129,7 @@ impl<R: MarginRule> House<R> {
 
     /// A held order ends.
     pub(crate) fn drop_held(&mut self, house: u32, number: u64) -> Result<(), Refusal>
-        ensures { step (trading meaning self.old) (DropCall house number) ≡ (done result, trading meaning self.new) }
+        ensures { step (trading R.meaning self.old) (DropCall house number) ≡ (done result, trading R.meaning self.new) }
     {
         let Some((place, _)) = self.held(house, number) else {
             return Err(Refusal::NoSuchOrder);
@@ -140,7 +140,7 @@ impl<R: MarginRule> House<R> {
 
     /// A sent order ends.
     pub fn cancel(&mut self, number: u64) -> Result<(), Refusal>
-        ensures { step (trading meaning self.old) (Cancel number) ≡ (done result, trading meaning self.new) }
+        ensures { step (trading R.meaning self.old) (Cancel number) ≡ (done result, trading R.meaning self.new) }
     {
         let Some((place, _)) = self.find(Stage::Sent, number) else {
             return Err(Refusal::NoSuchOrder);
@@ -190,7 +190,7 @@ impl<R: MarginRule> House<R> {
         price: u64,
         second_price: Option<u64>,
     ) -> Result<(), Refusal>
-        ensures { step (trading meaning self.old) (Fill number price second_price) ≡ (done result, trading meaning self.new) }
+        ensures { step (trading R.meaning self.old) (Fill number price second_price) ≡ (done result, trading R.meaning self.new) }
     {
         let Some((place, order)) = self.find(Stage::Sent, number) else {
             return Err(Refusal::NoSuchOrder);

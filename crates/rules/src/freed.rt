@@ -21,7 +21,7 @@ pub fn freed_by_one_lot<R: MarginRule>(
     long: u16,
     short: u16,
 ) -> Option<u64>
-    ensures value { result ≡ freed (R.MarginRule.meaning rule.now) margins long short }
+    ensures value { result ≡ freed (R.meaning rule.now) margins long short }
     ensures positive { AboveZero result }
 {
     if !askable(margins, long, short) || long == short {

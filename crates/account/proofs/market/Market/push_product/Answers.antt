@@ -10,19 +10,12 @@ invariant_of-self g c =
     let w = c.push_reserved.new.self in
     let e = c.push_reserved.ensures in
     let few : vec_len w ≤ 8 = omega (arith, e.len, c.requires.room) in
-    let room : 8 ≤ vec_capacity w = omega (arith, e.capacity, m.product_room) in (
-      few,
-      (
-        m.few_series,
-        (
-          room,
-          (
-            m.series_room,
-            (
-              pushed Fits (vec_items v) (vec_items w) c.args.margins (vec_len v) (vec_len w) e.items v.ok.0 e.len m.fits c.requires.fits,
-              ((λ i d h. omega (arith, e.len, m.known i d h)), tt),
-            ),
-          ),
-        ),
-      ),
-    )
+    let room : 8 ≤ vec_capacity w = omega (arith, e.capacity, m.product_room) in
+    record {
+      few_products = few;
+      few_series = m.few_series;
+      product_room = room;
+      series_room = m.series_room;
+      fits = pushed Fits (vec_items v) (vec_items w) c.args.margins (vec_len v) (vec_len w) e.items v.ok.0 e.len m.fits c.requires.fits;
+      known = λ i d h. omega (arith, e.len, m.known i d h);
+    }

@@ -10,7 +10,14 @@ invariant_of-self g c =
     let m = c.args.self.now in
     let ps = c.args.prices.now in
     let known = rewritten_known (settle_prices ps) (settle_length ps) (settle_products ps) m.series _ _ (vec_len m.products) c.as_mut_slice.ensures.value c.settle_all.ensures m.known in
-    (m.few_products, (m.few_series, (m.product_room, (m.series_room, (m.fits, (known, tt))))))
+    record {
+      few_products = m.few_products;
+      few_series = m.few_series;
+      product_room = m.product_room;
+      series_room = m.series_room;
+      fits = m.fits;
+      known = known;
+    }
 
 pub returns : goal.returns
 returns g c =
