@@ -14,12 +14,12 @@ put-requires g c =
     let ss = vec_items h.market.series in
     let k = vec_len h.placed in
     let n = c.args.amount in
-    let x = c.account-at-before.result in
+    let x = c.account_at-before.result in
     let z = c.in-Some.cash in
     let back : to_z w64 (of_z w64 x.cash) ≡ x.cash = search rules in
     let again : to_z w64 (of_z w64 z) ≡ z = search rules in
-    let paid = paid_in n x c.with-cash-after.result (to_z w64 (of_z w64 x.cash)) z (to_z w64 (of_z w64 z)) c.credited.result back again c.in-Some.ensures c.credited.ensures c.with-cash-after.ensures in
-    let was = c.account-at-before.ensures.sound in
+    let paid = paid_in n x c.with_cash-after.result (to_z w64 (of_z w64 x.cash)) z (to_z w64 (of_z w64 z)) c.credited.result back again c.in-Some.ensures c.credited.ensures c.with_cash-after.ensures in
+    let was = c.account_at-before.ensures.sound in
     let fits = cash_added n x.cash (facts ss k x was).cash paid.fits in
     let new = keeps_cash ss k (x.cash +ℤ pos n) (credited n x.call) x was fits in
     record { there = search rules; sound = subst (λ (y : Account). sound ss k y ≡ true) (sym paid.is) new }
@@ -27,10 +27,10 @@ put-requires g c =
 pub returns : goal.returns
 returns g c =
     let n = c.args.amount in
-    let x = c.account-at-before.result in
+    let x = c.account_at-before.result in
     let z = c.in-Some.cash in
     let back : to_z w64 (of_z w64 x.cash) ≡ x.cash = search rules in
     let again : to_z w64 (of_z w64 z) ≡ z = search rules in
-    let paid = paid_in n x c.with-cash-after.result (to_z w64 (of_z w64 x.cash)) z (to_z w64 (of_z w64 z)) c.credited.result back again c.in-Some.ensures c.credited.ensures c.with-cash-after.ensures in
-    deposit_granted (trading g.R.MarginRule.meaning c.args.self.now) (trading g.R.MarginRule.meaning c.put.new.self) c.args.account n x c.with-cash-after.result
-    c.if-not-has-account.ensures c.if-not-amount-in-range.ensures c.account-at-before.ensures.value paid c.put.ensures
+    let paid = paid_in n x c.with_cash-after.result (to_z w64 (of_z w64 x.cash)) z (to_z w64 (of_z w64 z)) c.credited.result back again c.in-Some.ensures c.credited.ensures c.with_cash-after.ensures in
+    deposit_granted (trading g.R.MarginRule.meaning c.args.self.now) (trading g.R.MarginRule.meaning c.put.new.self) c.args.account n x c.with_cash-after.result
+    c.if-not-has_account.ensures c.if-not-amount_in_range.ensures c.account_at-before.ensures.value paid c.put.ensures
