@@ -1,11 +1,8 @@
 -- Sides, one more position at a time.
-use Rattle.std.proofs.Common.{◌≡◌, ℕ, zero, suc, ◌+◌, ◌*◌, ◌<◌, ◌≤◌, Bool, true, false, cond, eqb, List, [], ◌∷◌, length, get_or, take, set, ℤ, pos, negsuc, nat_abs, sym, refl, ap, ◌∙◌, add-zero, add_assoc, zero-add, add-one, arith}
+use Rattle.std.proofs.Common.{◌≡◌, ℕ, zero, suc, ◌+◌, ◌*◌, ◌<◌, ◌≤◌, Bool, true, false, cond, eqb, List, [], ◌∷◌, length, get_or, take, set, ℤ, pos, negsuc, nat_abs, sym, refl, ap, ◌∙◌, add-one, arith}
 use Rattle.std.proofs.lemmas.Bool.Decides.{nat_tests}
-use Rattle.book.specs.declared.account.Position.{Position}
-use Rattle.book.specs.declared.market.Series.{Series}
-use Rattle.book.specs.Market.{Holding, holding, holdings, at, series_at, flat}
-use Rattle.book.specs.Requirements.{long, short, total, long_in, short_in, long_side, short_side}
-use Rattle.account.proofs.Sums.{length_holdings, holding_at}
+use Rattle.book.specs.Market.{Holding, at}
+use Rattle.book.specs.Requirements.{long, short, total}
 
 pub total_more : (f : Holding → ℕ) (hs : List Holding) (i : ℕ) → i < length hs → total f (take (i + 1) hs) ≡ total f (take i hs) + f (at hs i)
 total_more f [] i lt = absurd (omega arith)

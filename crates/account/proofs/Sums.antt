@@ -1,5 +1,5 @@
 -- Sums over holdings, one more at a time.
-use Rattle.std.proofs.Common.{◌≡◌, ℕ, zero, suc, ◌+◌, ◌<◌, ◌≤◌, List, [], ◌∷◌, length, get_or, take, ℤ, pos, ◌+ℤ◌, sym, refl, ap, ◌∙◌, add-one, arith}
+use Rattle.std.proofs.Common.{◌≡◌, ℕ, zero, suc, ◌+◌, ◌<◌, ◌≤◌, List, [], ◌∷◌, length, get_or, take, ◌+ℤ◌, refl, ap, ◌∙◌, add-one, arith}
 use borrow.Author.Differences.{same_in, same_out, Apart-out, sum_is_lem, neg_is}
 use Rattle.book.specs.declared.account.Position.{Position}
 use Rattle.book.specs.declared.market.Series.{Series}

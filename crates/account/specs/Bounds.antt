@@ -1,5 +1,5 @@
 -- How large the numbers of an account are.
-use Rattle.std.specs.Prelude.{◌≡◌, ℕ, ◌^◌, ◌<◌, ◌≤◌, List, length, get_or, ◌+ℤ◌, neg_ℤ, Some, None, Option, ◌≢◌, slice_index_or, unsigned_abs}
+use Rattle.std.specs.Prelude.{ℕ, ◌^◌, ◌<◌, ◌≤◌, List, get_or, ◌+ℤ◌, neg_ℤ, Some, None, Option, ◌≢◌, slice_index_or, unsigned_abs}
 use Rattle.rules.specs.declared.levels.RiskMargins.{RiskMargins}
 use Rattle.rules.specs.Laws.{Three}
 use Rattle.book.specs.declared.account.Account.{Account}

@@ -1,5 +1,5 @@
 -- The calls on a closed house: what each answers, and what it leaves.
-use Rattle.std.specs.Prelude.{ℕ, Bool, cond, ◌&&◌, List, [], ◌∷◌, ◌++◌, map, length, nat_lt, slice_set}
+use Rattle.std.specs.Prelude.{ℕ, Bool, cond, ◌&&◌, [], ◌∷◌, ◌++◌, map, length, nat_lt, slice_set}
 use Rattle.rules.specs.declared.levels.RiskMargins.{RiskMargins}
 use Rattle.rules.specs.PerLot.{fits}
 use Rattle.book.specs.declared.account.Account.{Account}

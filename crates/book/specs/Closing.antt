@@ -1,5 +1,5 @@
 -- Closing: what it answers, and what it leaves.
-use Rattle.std.specs.Prelude.{ℕ, Bool, true, false, not, ◌&&◌, ◌||◌, List, [], ◌∷◌, map, length, ℤ, pos, ◌*ℤ◌, ◌==◌}
+use Rattle.std.specs.Prelude.{ℕ, Bool, true, not, ◌&&◌, List, [], ◌∷◌, map, length, pos, ◌*ℤ◌, ◌==◌}
 use Rattle.book.specs.declared.account.Account.{Account}
 use Rattle.book.specs.declared.account.Position.{Position}
 use Rattle.book.specs.declared.market.Series.{Series}

@@ -1,5 +1,5 @@
 -- What is due on an account with an open margin call.
-use Rattle.std.specs.Prelude.{ℕ, Bool, true, false, ◌&&◌, ◌||◌, ℤ, Some, None, Option, ◌==◌, nat_le}
+use Rattle.std.specs.Prelude.{ℕ, Bool, false, ◌&&◌, ◌||◌, ℤ, Some, None, Option, ◌==◌, nat_le}
 use Rattle.rules.specs.Laws.{Three}
 use Rattle.book.specs.declared.account.Account.{Account}
 use Rattle.book.specs.declared.account.MarginCall.{MarginCall}

@@ -1,5 +1,5 @@
 -- What one call with its answer puts on record.
-use Rattle.std.specs.Prelude.{ℕ, List, [], ◌∷◌, Option}
+use Rattle.std.specs.Prelude.{ℕ, List, Option}
 use Rattle.rules.specs.declared.levels.RiskMargins.{RiskMargins}
 use Rattle.book.specs.declared.account.Figures.{Figures}
 use Rattle.book.specs.declared.account.Trade.{Trade}

@@ -4,7 +4,7 @@ use Rattle.book.specs.declared.account.Account.{Account}
 use Rattle.book.specs.declared.account.Position.{Position}
 use Rattle.book.specs.declared.account.Trade.{Trade}
 use Rattle.book.specs.Market.{Market, holdings}
-use Rattle.book.specs.Orders.{filled, filled_now, released}
+use Rattle.book.specs.Orders.{filled_now, released}
 use Rattle.book.specs.MarginCalls.{credited}
 use Rattle.book.specs.Due.{due_on}
 use Rattle.book.specs.Units.{next_unit, used_up}

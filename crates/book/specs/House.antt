@@ -1,5 +1,5 @@
 -- The state of a house.
-use Rattle.std.specs.Prelude.{ℕ, Bool, List, [], ◌∷◌, length, set, replicate, ℤ, pos, None, nat_le, nat_lt, slice_index_or, slice_set, unsigned_abs}
+use Rattle.std.specs.Prelude.{ℕ, Bool, List, [], length, replicate, ℤ, pos, None, nat_le, nat_lt, slice_index_or, slice_set, unsigned_abs}
 use Rattle.rules.specs.declared.levels.RiskMargins.{RiskMargins}
 use Rattle.rules.specs.Laws.{Rule}
 use Rattle.book.specs.declared.account.Account.{Account}

@@ -1,5 +1,5 @@
 -- Margin calls as a history tells them.
-use Rattle.std.specs.Prelude.{ℕ, suc, ◌+◌, ◌-◌, min, Bool, true, false, cond, not, ◌&&◌, ◌||◌, List, [], ◌∷◌, ◌++◌, ℤ, pos, ◌-ℤ◌, is_some, Some, None, Option, ◌==◌, nat_lt}
+use Rattle.std.specs.Prelude.{ℕ, ◌+◌, ◌-◌, min, Bool, true, false, cond, not, ◌&&◌, ◌||◌, [], ◌∷◌, ◌++◌, pos, ◌-ℤ◌, Some, None, Option, ◌==◌, nat_lt}
 use Rattle.rules.specs.Laws.{Rule}
 use Rattle.book.specs.declared.account.MarginCall.{MarginCall}
 use Rattle.book.specs.Due.{due}

@@ -1,5 +1,5 @@
 -- Margin calls.
-use Rattle.std.specs.Prelude.{ℕ, suc, ◌+◌, min, Bool, true, false, cond, ◌||◌, ℤ, pos, negsuc, ◌-ℤ◌, Some, None, Option, int_lt, nat_le}
+use Rattle.std.specs.Prelude.{ℕ, suc, ◌+◌, min, Bool, cond, ◌||◌, ℤ, pos, negsuc, ◌-ℤ◌, Some, None, Option, int_lt, nat_le}
 use Rattle.rules.specs.Laws.{Three}
 use Rattle.book.specs.declared.account.MarginCall.{MarginCall}
 use Rattle.book.specs.Requirements.{initial, maintenance, force}

@@ -1,5 +1,5 @@
 -- What an account's figures depend on besides the account.
-use Rattle.std.specs.Prelude.{ℕ, List, [], ◌∷◌, ℤ, pos, None, slice_index_or}
+use Rattle.std.specs.Prelude.{ℕ, List, [], ◌∷◌, ℤ, pos, slice_index_or}
 use Rattle.rules.specs.declared.levels.RiskMargins.{RiskMargins}
 use Rattle.rules.specs.Laws.{Rule}
 use Rattle.book.specs.declared.market.Series.{Series}

@@ -1,5 +1,5 @@
 -- Trades and orders: what a fill does to positions, and what an order needs.
-use Rattle.std.specs.Prelude.{ℕ, ◌+◌, ◌-◌, Bool, true, false, cond, List, [], ◌∷◌, set, ℤ, pos, ◌+ℤ◌, ◌-ℤ◌, ◌*ℤ◌, neg_ℤ, Some, None, Option, nat_lt, slice_index_or, slice_set}
+use Rattle.std.specs.Prelude.{ℕ, ◌+◌, ◌-◌, Bool, true, false, List, [], ◌∷◌, ℤ, pos, ◌+ℤ◌, ◌-ℤ◌, ◌*ℤ◌, neg_ℤ, Some, None, Option, nat_lt, slice_index_or, slice_set}
 use Rattle.book.specs.declared.account.Position.{Position}
 use Rattle.book.specs.declared.account.Trade.{Trade}
 use Rattle.book.specs.declared.account.Order.{Order}

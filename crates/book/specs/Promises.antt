@@ -1,5 +1,5 @@
 -- The promises over runs: for any margin rule that keeps the laws, and any list of calls.
-use Rattle.std.specs.Prelude.{◌≡◌, ℕ, zero, suc, ◌+◌, ◌<◌, ◌≤◌, Bool, true, false, cond, ◌&&◌, ◌⊎◌, List, [], ◌∷◌, ◌++◌, length, take, drop, replicate, ℤ, pos, negsuc, is_some, Some, None, Option, unsigned_abs}
+use Rattle.std.specs.Prelude.{◌≡◌, ℕ, suc, ◌+◌, ◌<◌, ◌≤◌, Bool, true, false, ◌&&◌, ◌⊎◌, List, [], ◌∷◌, ◌++◌, length, take, drop, replicate, ℤ, pos, negsuc, is_some, Some, None, Option, unsigned_abs}
 use Rattle.rules.specs.Laws.{Rule, Keeps}
 use Rattle.book.specs.declared.account.MarginCall.{MarginCall}
 use Rattle.book.specs.declared.account.Position.{Position}
@@ -12,7 +12,7 @@ use Rattle.book.specs.Due.{due}
 use Rattle.book.specs.Events.{Event, on_withdrawn, on_figured, on_forced}
 use Rattle.book.specs.ForcedList.{lines}
 use Rattle.book.specs.History.{History, recorded, checks_today, present_mark, market, positions, balance, minute}
-use Rattle.book.specs.House.{State, set_up}
+use Rattle.book.specs.House.{set_up}
 use Rattle.book.specs.Market.{Market, holdings}
 use Rattle.book.specs.MarginCalls.{credited}
 use Rattle.book.specs.Orders.{filled_now, released}

@@ -3,7 +3,6 @@ use Rattle.std.specs.Prelude.{ℕ, suc, ◌+◌, cond, List, [], ◌∷◌, ℤ,
 use Rattle.rules.specs.declared.levels.RiskMargins.{RiskMargins}
 use Rattle.rules.specs.Laws.{Rule, Three, charged}
 use Rattle.rules.specs.Rules.{plus}
-use Rattle.book.specs.declared.account.Account.{Account}
 use Rattle.book.specs.declared.account.Position.{Position}
 use Rattle.book.specs.Market.{Market, Holding, holdings}
 

@@ -1,10 +1,8 @@
 -- The calls on a trading house but Closing: what each answers, and what it leaves.
-use Rattle.std.specs.Prelude.{ℕ, suc, ◌-◌, Bool, true, false, cond, not, ◌&&◌, ◌||◌, List, [], ◌∷◌, ◌++◌, length, get_or, ℤ, pos, negsuc, ◌+ℤ◌, ◌-ℤ◌, neg_ℤ, is_some, Some, None, Option, ◌==◌, int_le, nat_le, nat_lt, slice_index_or, slice_set, unsigned_abs}
+use Rattle.std.specs.Prelude.{ℕ, suc, ◌-◌, Bool, true, false, cond, not, ◌&&◌, ◌||◌, List, [], ◌∷◌, ◌++◌, length, get_or, ℤ, pos, ◌+ℤ◌, ◌-ℤ◌, neg_ℤ, is_some, Some, None, Option, ◌==◌, int_le, nat_le, nat_lt, slice_index_or, slice_set, unsigned_abs}
 use Rattle.std.specs.Bool.{beq}
-use Rattle.std.specs.Int.Signed.{lt_z}
 use Rattle.std.specs.Option.{unwrap_or}
 use Rattle.std.specs.List.{slice_get}
-use Rattle.rules.specs.Laws.{Three}
 use Rattle.rules.specs.PerLot.{within}
 use Rattle.book.specs.declared.account.Account.{Account}
 use Rattle.book.specs.declared.account.Figures.{Figures}
@@ -14,9 +12,8 @@ use Rattle.book.specs.declared.account.Placement.{Placement}
 use Rattle.book.specs.declared.account.Stage.{Stage}
 use Rattle.book.specs.declared.account.Stage.TheVariants.{Held, Sent}
 use Rattle.book.specs.declared.account.Trade.{Trade}
-use Rattle.book.specs.declared.refusal.Refusal.{Refusal}
 use Rattle.book.specs.declared.refusal.Refusal.TheVariants.{Unknown, OutOfRange, EarlierMinute, SecondSeries, PositionLimit, OrderOpen, OrderNumbersUsed, CallOpen, ExceedsFree, CashLimit, NoSuchOrder, WrongCount, NothingDue, SheetTooShort}
-use Rattle.book.specs.Answer.{Answer, Done, Ordered, Told, Listed, Refused}
+use Rattle.book.specs.Answer.{Done, Ordered, Told, Listed, Refused}
 use Rattle.book.specs.Prices.{price_in_range, printed, with_quote}
 use Rattle.book.specs.Market.{Market, series_at, product_of, flat}
 use Rattle.book.specs.Equity.{equity}

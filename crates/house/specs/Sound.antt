@@ -1,5 +1,5 @@
 -- What is kept of every account of a house between calls, as a test.
-use Rattle.std.specs.Prelude.{ℕ, suc, ◌+◌, ◌*◌, Bool, true, false, not, ◌&&◌, List, [], ◌∷◌, length, drop, ℤ, ◌+ℤ◌, neg_ℤ, Some, None, Option, ◌==◌, nat_le, nat_lt, slice_index_or, unsigned_abs}
+use Rattle.std.specs.Prelude.{ℕ, suc, ◌+◌, ◌*◌, Bool, true, not, ◌&&◌, List, [], ◌∷◌, length, drop, ℤ, ◌+ℤ◌, neg_ℤ, Some, None, Option, ◌==◌, nat_le, nat_lt, slice_index_or, unsigned_abs}
 use Rattle.book.specs.declared.account.Account.{Account}
 use Rattle.book.specs.declared.account.Order.{Order}
 use Rattle.book.specs.declared.account.Position.{Position}

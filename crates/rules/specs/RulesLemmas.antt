@@ -1,12 +1,11 @@
 -- The three rules keep the laws.
-use Rattle.std.specs.Prelude.{◌≡◌, ℕ, ◌+◌, ◌-◌, ◌*◌, ◌<◌, ◌≤◌, min, max}
+use Rattle.std.specs.Prelude.{◌≡◌, ℕ, ◌+◌, ◌-◌, ◌*◌, ◌≤◌, min, max}
 use Rattle.std.proofs.Common.{ap, mul-le-mul_left, add-mul, zero-mul, arith}
 use Rattle.std.proofs.lemmas.Nat.{mul-le}
 use Rattle.rules.specs.declared.levels.Levels.{Levels}
-use Rattle.rules.specs.declared.levels.RiskMargins.{RiskMargins}
 use Rattle.rules.specs.declared.rule.RuleChoice.{RuleChoice}
 use Rattle.rules.specs.declared.rule.RuleChoice.TheVariants.{Gross, LargerSide, Pairs}
-use Rattle.rules.specs.PerLot.{per_lot, Fits}
+use Rattle.rules.specs.PerLot.{per_lot}
 use Rattle.rules.specs.Laws.{Three, Ordered, Falls, Keeps}
 use Rattle.rules.specs.Rules.{times, plus, difference, gross, larger_side, pairs, chosen}
 use Rattle.rules.specs.Lots.{Lot, Lots, lots}

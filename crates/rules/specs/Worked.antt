@@ -1,6 +1,5 @@
 -- Worked cases of the levels and the rules, at the risk margins of the SET50 index future: 450,000 outright, 112,500 for a spread.
 use Rattle.std.specs.Prelude.{◌≡◌}
-use Rattle.rules.specs.declared.levels.Levels.{Levels}
 use Rattle.rules.specs.declared.levels.RiskMargins.{RiskMargins}
 use Rattle.rules.specs.PerLot.{per_lot}
 use Rattle.rules.specs.Laws.{charged}

@@ -1,5 +1,5 @@
 -- Decimal digits, one by one from the last.
-use Rattle.std.proofs.Common.{◌≡◌, ℕ, zero, suc, ◌+◌, ◌-◌, ◌*◌, ◌/◌, ◌%◌, ◌^◌, ◌<◌, ◌≤◌, Bool, true, false, cond, eqb, ltb, List, [], ◌∷◌, ◌++◌, map, length, take, drop, set, ℤ, pos, negsuc, nat_abs, decimal, sym, refl, ap, ◌∙◌, ⊎_elim, append_assoc, pow-suc, arith, length-drop}
+use Rattle.std.proofs.Common.{◌≡◌, ℕ, zero, suc, ◌+◌, ◌-◌, ◌/◌, ◌%◌, ◌^◌, ◌<◌, ◌≤◌, Bool, true, false, cond, eqb, List, [], ◌∷◌, ◌++◌, map, length, take, drop, set, ℤ, pos, negsuc, nat_abs, decimal, sym, refl, ap, ◌∙◌, ⊎_elim, append_assoc, pow-suc, arith, length-drop}
 use lib.Signed.{lt_z}
 use Rattle.std.specs.Fmt.{digits_onto, digits, signed_decimal, digit_glyph}
 use Rattle.std.specs.Int.Digits.{digits_of}

@@ -1,5 +1,5 @@
 -- Worked cases of lines and answers.
-use Rattle.std.specs.Prelude.{◌≡◌, ℕ, true, false, List, [], ◌∷◌, pos, negsuc, Some, None, codes}
+use Rattle.std.specs.Prelude.{◌≡◌, ℕ, true, List, [], ◌∷◌, pos, negsuc, Some, None, codes}
 use Prim.Native.String.{String}
 use Rattle.rules.specs.declared.rule.RuleChoice.TheVariants as rule
 use Rattle.book.specs.declared.refusal.Refusal.TheVariants as refusal

@@ -3,7 +3,7 @@ use Rattle.std.specs.Prelude.{◌≡◌, Some, None, Ok, Err, codes}
 use Rattle.rules.specs.PerLot.{per_lot}
 use Rattle.rules.specs.declared.levels.RangeError.TheVariants as range
 use Rattle.sheet.specs.declared.number.NumberFault.TheVariants.{NotDigits, TooLarge}
-use Rattle.sheet.specs.declared.row.LineFault.TheVariants.{NoSpread, Spread, NoName, Range}
+use Rattle.sheet.specs.declared.row.LineFault.TheVariants.{NoSpread, NoName, Range}
 use Rattle.sheet.specs.Amount.{baht, right_aligned}
 use Rattle.sheet.specs.Number.{decimal}
 use Rattle.sheet.specs.Row.{of_line}

@@ -1,6 +1,6 @@
-use Rattle.std.proofs.Common.{◌≡◌, ◌*◌, ◌^◌, ◌<◌, ◌≤◌, length, take, nat_abs, ap, arith, rules}
+use Rattle.std.proofs.Common.{◌<◌, ◌≤◌, length, nat_abs, ap, arith}
 use mir.Syntax.{w128}
-use Rattle.std.proofs.lemmas.Int.{ints, to_z-of_z}
+use Rattle.std.proofs.lemmas.Int.{to_z-of_z}
 use Rattle.std.proofs.lemmas.List.{take_all}
 use Rattle.book.specs.Market.{holdings}
 use Rattle.book.specs.Equity.{gain}

@@ -1,4 +1,4 @@
-use Rattle.std.proofs.Common.{◌≡◌, ℕ, ◌<◌, ◌≤◌, length, get_or, ℤ, pos, ◌-ℤ◌, neg_ℤ, nat_abs, Option, ap, subst, arith, w32, to_z, of_z}
+use Rattle.std.proofs.Common.{◌≡◌, length, get_or, Option, ap, subst, arith, w32, to_z, of_z}
 use Rattle.std.proofs.lemmas.Int.{ints}
 use Rattle.book.specs.Market.{flat}
 use Rattle.account.specs.Bounds.{SecondFits}

@@ -1,5 +1,5 @@
-use Rattle.std.proofs.Common.{◌≡◌, ◌≤◌, List, length, get_or, take, set, sym, ap, ◌∙◌, arith, w32, w64, to_z, of_z, rules}
-use Rattle.std.proofs.lemmas.Int.{ints, to_z-of_z}
+use Rattle.std.proofs.Common.{◌≡◌, List, length, get_or, set, ap, ◌∙◌, arith, w32, w64, to_z, of_z, rules}
+use Rattle.std.proofs.lemmas.Int.{to_z-of_z}
 use Rattle.std.proofs.lemmas.List.{length-set, take_all}
 use Rattle.book.specs.declared.account.Position.{Position}
 use Rattle.book.specs.declared.market.Series.{Series}

@@ -1,4 +1,4 @@
-use Rattle.std.proofs.Common.{◌≡◌, vec_items, sym, ap, ◌∙◌}
+use Rattle.std.proofs.Common.{vec_items, sym, ap, ◌∙◌}
 use mir.Syntax.{w128}
 use Rattle.std.proofs.lemmas.Int.{to_z-of_z}
 use Rattle.account.specs.View.{the_market, with_series}

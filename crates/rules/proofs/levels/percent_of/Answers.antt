@@ -1,5 +1,5 @@
 -- At most 190 percent of 500,000,000 fits 32 bits.
-use Rattle.std.proofs.Common.{◌*◌, arith}
+use Rattle.std.proofs.Common.{arith}
 use Rattle.std.proofs.lemmas.Nat.{mul-le}
 use Rattle.rules.proofs.levels.percent_of.Goals as goal
 

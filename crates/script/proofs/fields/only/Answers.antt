@@ -1,4 +1,4 @@
-use Rattle.std.proofs.Common.{Some, sym, ap, ◌∙◌, rules, true-eqb, false-eqb}
+use Rattle.std.proofs.Common.{Some, sym, ap, ◌∙◌, true-eqb, false-eqb}
 use Rattle.script.specs.Fields.{only}
 use Rattle.script.proofs.Splits.{words_none, only_one, only_more}
 use Rattle.script.proofs.fields.only.Goals as goal

@@ -1,4 +1,4 @@
-use Rattle.std.proofs.Common.{length, vec_items, sym, ap, ◌∙◌, arith, rules, true-eqb, false-eqb}
+use Rattle.std.proofs.Common.{length, vec_items, sym, ap, ◌∙◌, arith, true-eqb, false-eqb}
 use Rattle.script.specs.Line.{numbers}
 use Rattle.script.specs.Words.{words}
 use Rattle.script.proofs.Lists.{onto, onto_number, onto_no_number, onto_none}

@@ -1,7 +1,7 @@
-use Rattle.std.proofs.Common.{◌≡◌, ◌+◌, ◌<◌, ◌≤◌, length, get_or, vec_items, vec_len, sym, ap, ◌∙◌, subst, arith}
+use Rattle.std.proofs.Common.{◌≡◌, ◌+◌, ◌<◌, ◌≤◌, length, vec_items, sym, subst, arith}
 use Rattle.rules.specs.Laws.{Three}
 use Rattle.book.specs.Market.{holdings}
-use Rattle.book.specs.Requirements.{product_levels, long_side, short_side}
+use Rattle.book.specs.Requirements.{product_levels}
 use Rattle.account.specs.Bounds.{margins_at}
 use Rattle.account.proofs.Levels.{Added, added_none, added_more, added_all}
 use Rattle.account.proofs.market.Market.requirements.Goals as goal

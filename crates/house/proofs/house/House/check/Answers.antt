@@ -1,4 +1,4 @@
-use Rattle.std.proofs.Common.{◌≡◌, ℕ, true, length, None, vec_items, vec_len, sym, subst, w64, to_z, of_z, rules}
+use Rattle.std.proofs.Common.{◌≡◌, ℕ, true, None, vec_items, sym, subst, w64, to_z, of_z, rules}
 use Rattle.account.specs.Bounds.{TradeFits}
 use Rattle.book.specs.declared.account.Account.{Account}
 use Rattle.book.specs.TradingCalls.{order_in}

@@ -4,7 +4,7 @@ use Rattle.book.specs.MarginCalls.{credited}
 use Rattle.house.specs.Sound.{sound}
 use Rattle.house.specs.View.{trading}
 use Rattle.house.proofs.Facts.{facts}
-use Rattle.house.proofs.Grants.{PaidIn, paid_in, cash_added, deposit_granted}
+use Rattle.house.proofs.Grants.{paid_in, cash_added, deposit_granted}
 use Rattle.house.proofs.Keeps.{keeps_cash}
 use Rattle.house.proofs.house.House.deposit.Goals as goal
 

@@ -1,4 +1,4 @@
-use Rattle.std.proofs.Common.{◌≡◌, ℕ, suc, ◌+◌, ◌<◌, Bool, true, length, get_or, set, Some, None, vec_items, vec_len, sym, ap, ◌∙◌, subst, arith, rules}
+use Rattle.std.proofs.Common.{◌≡◌, ◌+◌, ◌<◌, true, length, None, vec_items, vec_len, sym, subst, rules}
 use Rattle.book.specs.declared.account.Account.{Account}
 use Rattle.account.proofs.Listings.{pushed}
 use Rattle.book.specs.declared.account.Order.{Order}
