@@ -1,9 +1,9 @@
 #!/bin/sh
-# Times target/bin/margin against the plain Rust engine of bench/engine.rs on 200,000 prints and figures over a full house.
+# Times crates/margin/out/margin against the plain Rust engine of bench/engine.rs on 200,000 prints and figures over a full house.
 # It ends with status 1 where the answers differ, or where margin takes more than 1.5 times as long.
 set -eu
 cd "$(dirname "$0")/.."
-margin=${MARGIN:-target/bin/margin}
+margin=${MARGIN:-crates/margin/out/margin}
 if [ ! -x "$margin" ]; then
     echo "margin.sh: there is no $margin" >&2
     exit 1

@@ -1,4 +1,4 @@
-# Prints the sheet that target/bin/rates prints, from rows that have no fault and names in ASCII.
+# Prints the sheet that the program rates prints, from rows that have no fault and names in ASCII.
 function level(risk, percent) { return int((risk * percent + 99) / 100) }
 
 function baht(satang,  whole, text) {

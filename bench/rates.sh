@@ -1,10 +1,10 @@
 #!/bin/sh
-# Times target/bin/rates on 100,000 rows against an awk program that prints the same sheet, and shows that its peak
-# memory is the same at 1,000,000 rows. Build it first, by `rt check rates`. It ends with status 1 where the sheets
+# Times crates/rates/out/rates on 100,000 rows against an awk program that prints the same sheet, and shows that its peak
+# memory is the same at 1,000,000 rows. Build it first, by `./build rates`. It ends with status 1 where the sheets
 # differ or rates takes longer.
 set -eu
 cd "$(dirname "$0")/.."
-rates=target/bin/rates
+rates=crates/rates/out/rates
 work=$(mktemp -d)
 trap 'rm -rf "$work"' EXIT
 

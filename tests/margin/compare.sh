@@ -1,11 +1,11 @@
 #!/bin/sh
-# compare.sh [COUNT]: runs COUNT (20) random scripts of 3,000 lines, and the special ones, through target/bin/margin and
+# compare.sh [COUNT]: runs COUNT (20) random scripts of 3,000 lines, and the special ones, through crates/margin/out/margin and
 # through the plain Rust engine of bench/engine.rs, and compares the answers. It prints the first difference of each script
 # with the line it answers, and ends with status 1 where there is one. The script comes again by random.py SEED 3000, or by
 # random.py --special NAME. MARGIN names another program to be compared.
 set -eu
 cd "$(dirname "$0")/../.."
-margin=${MARGIN:-target/bin/margin}
+margin=${MARGIN:-crates/margin/out/margin}
 count=${1:-20}
 if [ ! -x "$margin" ]; then
     echo "compare.sh: there is no $margin" >&2

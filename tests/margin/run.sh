@@ -1,9 +1,9 @@
 #!/bin/sh
-# Runs target/bin/margin on the example scripts, on the table of bounds and on odd input, and compares what it writes.
-# Build it first, by `rt check margin`.
+# Runs crates/margin/out/margin on the example scripts, on the table of bounds and on odd input, and compares what it writes.
+# Build it first, by `./build margin`.
 set -u
 cd "$(dirname "$0")/../.." || exit 1
-margin=target/bin/margin
+margin=crates/margin/out/margin
 work=$(mktemp -d)
 trap 'rm -rf "$work"' EXIT
 failed=0

@@ -1,9 +1,9 @@
 #!/bin/sh
-# Runs target/bin/rates on sheets with and without faults, and compares what it writes on both streams and its status.
-# Build it first, by `rt check rates`.
+# Runs crates/rates/out/rates on sheets with and without faults, and compares what it writes on both streams and its status.
+# Build it first, by `./build rates`.
 set -u
 cd "$(dirname "$0")/../.." || exit 1
-rates=target/bin/rates
+rates=crates/rates/out/rates
 work=$(mktemp -d)
 trap 'rm -rf "$work"' EXIT
 failed=0

@@ -3,7 +3,8 @@
 # edit it must be refused by the compiler, with the error that the edit names and no other. (`rt must-fail` takes only edits that
 # reach the prover.)
 # An edit has five lines: crate, error, file (in the crate's folder), old (a text that stands once in that file), new.
-# Without target/ the crates below the programs are proved first, which takes minutes.
+# The copy's check begins with what checks in this repository kept; without that the crates below the programs are proved
+# first, which takes minutes.
 set -u
 here=$(cd "$(dirname "$0")" && pwd) || exit 1
 root=$(cd "$here/../.." && pwd) || exit 1
@@ -37,7 +38,7 @@ replaced() {
 
 # Checks the crate in the copy.
 check() {
-    (cd "$work/copy" && RT_CUT=0 rt check "$crate") > "$work/log" 2>&1
+    (cd "$work/copy/crates/$crate" && rt check) > "$work/log" 2>&1
 }
 
 # The kinds of errors in the log, each once: error[NAME], or error where it has no name.
@@ -61,7 +62,7 @@ try() {
     check
     status=$?
     cp "$work/kept" "$source" || exit 1
-    line=$(sed "s|$work/copy/crates/||g" "$work/log" | grep -F "$crate/$file:" | grep -F ": error[$error]:" | head -n 1)
+    line=$(grep -F ": error[$error]:" "$work/log" | grep -e "^$file:" | head -n 1)
     if [ "$status" -eq 1 ] && [ -n "$line" ] && [ "$(kinds)" = "error[$error]" ]; then
         echo "ok: $name refused: $line"
     else
@@ -70,13 +71,8 @@ try() {
     fi
 }
 
-mkdir -p "$work/copy/target" || exit 1
-cp -r "$root/crates" "$root/crates.txt" "$work/copy" || exit 1
-for part in rlib stamp inc bin; do
-    if [ -d "$root/target/$part" ]; then
-        cp -r "$root/target/$part" "$work/copy/target" || exit 1
-    fi
-done
+mkdir -p "$work/copy" || exit 1
+tar -C "$root" --exclude=out -cf - crates crates.txt | tar -C "$work/copy" -xf - || exit 1
 
 for edit in "$here"/*.edit; do
     name=${edit##*/}

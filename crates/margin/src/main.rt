@@ -10,6 +10,7 @@ use script::line::{Reading, read};
 use std::alloc::AllocError;
 use std::fs::File;
 use std::io::{BufRead, BufReader, BufWriter, Read, Write};
+use std::process::ExitCode;
 use std::{env, io};
 
 const HELP: &str =
@@ -49,10 +50,6 @@ A day:
 'refused N' is a refusal by its number, 'not now' a call that does not exist in the house's present state, 'unreadable'
 a line that is no call. '#' begins a comment.
 ";
-
-/// Why the program ends with an error.
-#[derive(Clone, Copy, Debug)]
-struct Failure;
 
 /// Adds the line of a reply.
 fn put_reply(out: &mut Vec<u8>, reply: Reply) -> Result<(), AllocError> {
@@ -168,12 +165,12 @@ fn start(rt: &HostRuntime) -> io::Result<()> {
     }
 }
 
-fn main(rt: HostRuntime) -> Result<(), Failure> {
+fn main(rt: HostRuntime) -> ExitCode {
     match start(&rt) {
-        Ok(()) => Ok(()),
+        Ok(()) => ExitCode::SUCCESS,
         Err(e) => {
             let _ = eprintln!(rt; "margin: {e}");
-            Err(Failure)
+            ExitCode::FAILURE
         }
     }
 }

@@ -13,16 +13,8 @@ use sheet::amount::amount;
 use sheet::number::decimal;
 use sheet::word::{split_word, trimmed};
 use std::io::{BufRead, BufReader};
+use std::process::ExitCode;
 use std::{fmt, io};
-
-/// Why the program ends with an error.
-#[derive(Clone, Copy, Debug)]
-enum Failure {
-    /// A line differs, or is no rate.
-    Lines,
-    /// The table cannot be read, or the result cannot be written.
-    Stream,
-}
 
 #[derive(Clone, Copy)]
 enum Kind {
@@ -178,13 +170,14 @@ fn check_table(rt: &HostRuntime) -> io::Result<bool> {
     Ok(all_agree)
 }
 
-fn main(rt: HostRuntime) -> Result<(), Failure> {
+/// Ends with an error where a line differs or is no rate, the table cannot be read, or the result cannot be written.
+fn main(rt: HostRuntime) -> ExitCode {
     match check_table(&rt) {
-        Ok(true) => Ok(()),
-        Ok(false) => Err(Failure::Lines),
+        Ok(true) => ExitCode::SUCCESS,
+        Ok(false) => ExitCode::FAILURE,
         Err(e) => {
             let _ = eprintln!(rt; "published: {e}");
-            Err(Failure::Stream)
+            ExitCode::FAILURE
         }
     }
 }

@@ -5,15 +5,7 @@ use sheet::layout::{HEADER, put_row};
 use sheet::row::read_row;
 use std::io;
 use std::io::{BufRead, BufReader, BufWriter, Write};
-
-/// Why the program ends with an error.
-#[derive(Clone, Copy, Debug)]
-enum Failure {
-    /// Some lines are no rows.
-    Lines,
-    /// The input cannot be read, or the sheet cannot be written.
-    Stream,
-}
+use std::process::ExitCode;
 
 /// Prints the sheet, and names the lines that are no rows on standard error. Answers whether there were none.
 fn print_sheet(rt: &HostRuntime) -> io::Result<bool> {
@@ -46,13 +38,14 @@ fn print_sheet(rt: &HostRuntime) -> io::Result<bool> {
     Ok(all_read)
 }
 
-fn main(rt: HostRuntime) -> Result<(), Failure> {
+/// Ends with an error where some lines are no rows, the input cannot be read, or the sheet cannot be written.
+fn main(rt: HostRuntime) -> ExitCode {
     match print_sheet(&rt) {
-        Ok(true) => Ok(()),
-        Ok(false) => Err(Failure::Lines),
+        Ok(true) => ExitCode::SUCCESS,
+        Ok(false) => ExitCode::FAILURE,
         Err(e) => {
             let _ = eprintln!(rt; "rates: {e}");
-            Err(Failure::Stream)
+            ExitCode::FAILURE
         }
     }
 }
