@@ -47,6 +47,7 @@ fn from_minus(n: u64) -> Option<i64>
 }
 
 /// A signed number of 64 bits: digits, or a minus and digits.
+#[tactic(auto, using(crate::proofs::Signs::signed_minus))]
 pub(crate) fn signed(word: &[u8]) -> Option<i64>
     ensures { result ≡ signed word.now }
 {
