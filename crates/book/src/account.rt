@@ -10,7 +10,7 @@ pub const MAX_PRODUCTS: usize = 8;
 pub const MAX_ACCOUNTS: usize = 32;
 
 /// An account's lots in a series.
-#[derive(Clone, Copy)]
+#[derive(Clone, Copy, PartialEq, Eq, Debug)]
 pub struct Position {
     /// Plus is long, minus is short: −1,000 to 1,000.
     pub net: i32,
@@ -19,7 +19,7 @@ pub struct Position {
 }
 
 /// Signed lots of a series, and the opposite lots of a second one, if any: the terms of an order, and a line of a forced list.
-#[derive(Clone, Copy)]
+#[derive(Clone, Copy, PartialEq, Eq, Debug)]
 pub struct Trade {
     pub series: usize,
     /// Plus is bought, minus is sold: −1,000 to 1,000 and not 0.
@@ -28,13 +28,13 @@ pub struct Trade {
 }
 
 /// An open order is held until its ticket is spent, and then sent.
-#[derive(Clone, Copy)]
+#[derive(Clone, Copy, PartialEq, Eq, Debug)]
 pub enum Stage {
     Held,
     Sent,
 }
 
-#[derive(Clone, Copy)]
+#[derive(Clone, Copy, PartialEq, Eq, Debug)]
 pub struct Order {
     /// The day's order number, 1 to 9,999.
     pub number: u32,
@@ -42,7 +42,7 @@ pub struct Order {
     pub trade: Trade,
 }
 
-#[derive(Clone, Copy)]
+#[derive(Clone, Copy, PartialEq, Eq, Debug)]
 pub struct MarginCall {
     /// In satang, above 0.
     pub amount: u64,
@@ -54,26 +54,26 @@ pub struct MarginCall {
     pub low: bool,
 }
 
-#[derive(Clone, Copy)]
+#[derive(Clone, Copy, PartialEq, Eq, Debug)]
 pub struct Account {
     /// In satang, at most 10^17 in size.
     pub cash: i64,
     /// By series.
-    pub positions: [Position; 24],
+    pub positions: [Position; MAX_SERIES],
     /// The open order in each product.
-    pub orders: [Option<Order>; 8],
+    pub orders: [Option<Order>; MAX_PRODUCTS],
     pub call: Option<MarginCall>,
 }
 
 /// Where an order of the day was placed.
-#[derive(Clone, Copy)]
+#[derive(Clone, Copy, PartialEq, Eq, Debug)]
 pub struct Placement {
     pub account: usize,
     pub product: usize,
 }
 
 /// What Figures answers of an account, in satang.
-#[derive(Clone, Copy)]
+#[derive(Clone, Copy, PartialEq, Eq, Debug)]
 pub struct Figures {
     pub equity: i128,
     pub initial: u64,

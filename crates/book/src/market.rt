@@ -1,7 +1,7 @@
 //! Series and their prices.
 
 /// The prices of a series, in hundredths of a quoted point: 1 to 10,000,000.
-#[derive(Clone, Copy)]
+#[derive(Clone, Copy, PartialEq, Eq, Debug)]
 pub struct Quote {
     /// The latest settlement price.
     pub settlement: u32,
@@ -10,7 +10,7 @@ pub struct Quote {
 }
 
 /// A series of a product.
-#[derive(Clone, Copy)]
+#[derive(Clone, Copy, PartialEq, Eq, Debug)]
 pub struct Series {
     pub product: usize,
     /// Baht per point, 1 to 10,000.

@@ -37,11 +37,11 @@ pub enum Refusal {
     SheetTooShort = 15,
 }
 
-impl Refusal {
-    /// The refusal's number.
-    pub fn number(self) -> u8
-        ensures { result ≡ number_of self }
-    {
-        self as u8
+/// The refusal's number.
+impl From<Refusal> for u8 {
+    ghost from_gives = { λ refusal number. number ≡ number_of refusal };
+
+    fn from(refusal: Refusal) -> u8 {
+        refusal as u8
     }
 }

@@ -2,7 +2,7 @@
 ghost use Rattle.std.specs.Prelude.{◌≡◌};
 ghost use Rattle.rules.specs.Freed.{freed, AboveZero, askable};
 
-use crate::levels::{Levels, RiskMargins};
+use crate::levels::RiskMargins;
 use crate::rule::MarginRule;
 
 /// The most lots on a side for which a rule keeps its laws.
@@ -27,13 +27,11 @@ pub fn freed_by_one_lot<R: MarginRule>(
     if !askable(margins, long, short) || long == short {
         return None;
     }
-    let outright = Levels::of(margins.outright);
-    let spread = Levels::of(margins.spread);
-    let (before, _, _) = rule.levels(outright, spread, long, short);
+    let (before, _, _) = rule.charged(margins, long, short);
     let (after, _, _) = if short < long {
-        rule.levels(outright, spread, long - 1, short)
+        rule.charged(margins, long - 1, short)
     } else {
-        rule.levels(outright, spread, long, short - 1)
+        rule.charged(margins, long, short - 1)
     };
     Some(before - after)
 }

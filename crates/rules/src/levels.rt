@@ -31,7 +31,8 @@ pub enum RangeError {
 
 /// So many percent of a risk margin, rounded up to a whole satang.
 fn percent_of(risk: u32, rate: u32) -> u32
-    requires { (InRange risk) × (rate ≤ 190) }
+    requires risk { InRange risk }
+    requires rate { rate ≤ 190 }
     ensures { result ≡ percent rate risk }
 {
     ((risk as u64 * rate as u64 + 99) / 100) as u32
@@ -55,7 +56,7 @@ impl Levels {
 pub fn per_lot(risk: u64) -> Result<Levels, RangeError>
     ensures { result ≡ per_lot_answer risk }
 {
-    if risk < 1 || risk > MAX_RISK {
+    if !(1..=MAX_RISK).contains(&risk) {
         return Err(RangeError::Outright);
     }
     Ok(Levels::of(risk as u32))
@@ -66,10 +67,10 @@ impl RiskMargins {
     pub fn new(outright: u64, spread: u64) -> Result<RiskMargins, RangeError>
         ensures { result ≡ risk_margins outright spread }
     {
-        if outright < 1 || outright > MAX_RISK {
+        if !(1..=MAX_RISK).contains(&outright) {
             return Err(RangeError::Outright);
         }
-        if spread < 1 || spread > outright {
+        if !(1..=outright).contains(&spread) {
             return Err(RangeError::Spread);
         }
         Ok(RiskMargins {

@@ -1,10 +1,11 @@
 //! Margin rules.
 ghost use Rattle.std.specs.Prelude.{◌≡◌, ◌+◌, ◌*◌, ◌^◌, ◌<◌};
-ghost use Rattle.rules.specs.Laws.{Rule, FlatIsFree, InOrder, LongFalls, ShortFalls, PairFalls};
+ghost use Rattle.rules.specs.PerLot.{Fits};
+ghost use Rattle.rules.specs.Laws.{Rule, charged, FlatIsFree, InOrder, LongFalls, ShortFalls, PairFalls};
 ghost use Rattle.rules.specs.Rules.{times, plus, gross, larger_side, pairs, chosen};
 ghost use Rattle.rules.specs.RulesLemmas.{gross_keep, larger_side_keep, pairs_keep, chosen_keep};
 
-use crate::levels::Levels;
+use crate::levels::{Levels, RiskMargins};
 
 /// The margin that a house asks for the lots on the two sides of a product.
 pub trait MarginRule {
@@ -13,6 +14,16 @@ pub trait MarginRule {
     /// The initial, the maintenance and the force level of `long` lots long and `short` lots short.
     fn levels(&self, outright: Levels, spread: Levels, long: u16, short: u16) -> (u64, u64, u64)
         ensures { result ≡ meaning self.now outright spread long short };
+
+    /// The levels of the lots on the two sides of a product with these risk margins.
+    final fn charged(&self, margins: RiskMargins, long: u16, short: u16) -> (u64, u64, u64)
+        requires { Fits margins }
+        ensures { result ≡ charged (meaning self.now) margins long short }
+    {
+        let outright = Levels::of(margins.outright);
+        let spread = Levels::of(margins.spread);
+        self.levels(outright, spread, long, short)
+    }
 
     ghost flat: { (rule : Self) → FlatIsFree (meaning rule) };
 
@@ -60,8 +71,10 @@ fn times(lots: u32, level: Levels) -> (u64, u64, u64)
 }
 
 /// The sum, level by level.
-fn plus(a: (u64, u64, u64), b: (u64, u64, u64)) -> (u64, u64, u64)
-    requires { (a.0 + b.0 < 2 ^ 64) × ((a.1 + b.1 < 2 ^ 64) × (a.2 + b.2 < 2 ^ 64)) }
+pub fn plus(a: (u64, u64, u64), b: (u64, u64, u64)) -> (u64, u64, u64)
+    requires initial { a.0 + b.0 < 2 ^ 64 }
+    requires maintenance { a.1 + b.1 < 2 ^ 64 }
+    requires force { a.2 + b.2 < 2 ^ 64 }
     ensures { result ≡ plus a b }
 {
     (a.0 + b.0, a.1 + b.1, a.2 + b.2)
