@@ -59,7 +59,7 @@ pub fn put_refused(out: &mut Vec<u8>, refusal: Refusal) -> Result<(), AllocError
     ensures { OnOk result (out.new.items ≡ out.old.items ++ refused_line refusal) }
 {
     put(out, b"refused")?;
-    put_field(out, refusal.number() as u64)?;
+    put_field(out, u8::from(refusal) as u64)?;
     put(out, b"\n")
 }
 
