@@ -1,7 +1,6 @@
 -- How large the levels of a product and of an account are.
-use Rattle.std.proofs.Common.{◌≡◌, ℕ, ◌+◌, ◌*◌, ◌^◌, ◌<◌, ◌≤◌, List, length, drop, sym, refl, ap, ◌∙◌, add-zero, add_assoc, zero-add, add-one, arith, drop-cons}
+use Rattle.std.proofs.Common.{◌≡◌, ℕ, ◌+◌, ◌*◌, ◌^◌, ◌<◌, ◌≤◌, List, length, drop, sym, refl, ap, ◌∙◌, add_assoc, add-one, arith, drop-cons}
 use Rattle.std.proofs.lemmas.Nat.{mul-le}
-use Rattle.std.proofs.lemmas.List.{drop_all}
 use Rattle.rules.specs.declared.levels.RiskMargins.{RiskMargins}
 use Rattle.rules.specs.PerLot.{per_lot, Fits}
 use Rattle.rules.specs.Laws.{Three, Rule, InOrder, charged}
@@ -20,16 +19,10 @@ charged_under f ordered m l s fits hl hs =
 plus_assoc : (x y z : Three) → plus (plus x y) z ≡ plus x (plus y z)
 plus_assoc x y z = simp (add_assoc, plus)
 
-plus_none : (x : Three) → plus x (0, 0, 0) ≡ x
-plus_none x = simp (add-zero, plus)
-
 -- what the products from i on add to what the first ones add
 pub record Added (f : Rule) (ms : List RiskMargins) (hs : List Holding) (i : ℕ) (acc : Three) : Type 0 where
   pub whole : plus acc (levels_from f i (drop i ms) hs) ≡ levels_from f 0 ms hs
   pub size : Under (i * 2 ^ 46) acc
-
-pub added_none : (f : Rule) (ms : List RiskMargins) (hs : List Holding) → Added f ms hs 0 (0, 0, 0)
-added_none f ms hs = record { whole = simp (zero-add, plus); size = (omega arith, omega arith, omega arith) }
 
 pub added_more : (f : Rule) (ms : List RiskMargins) (hs : List Holding) (i : ℕ) (acc next : Three) → i < length ms
     → next ≡ product_levels f (margins_at ms i) i hs → Under (2 ^ 46) next → Added f ms hs i acc → Added f ms hs (i + 1) (plus acc next)
@@ -40,7 +33,3 @@ added_more f ms hs i acc next lt is under a =
       whole = plus_assoc acc next _ ∙ ap (plus acc) (sym step) ∙ a.whole;
       size = (omega (arith, a.size, under), omega (arith, a.size, under), omega (arith, a.size, under));
     }
-
-pub added_all : (f : Rule) (ms : List RiskMargins) (hs : List Holding) (i : ℕ) (acc : Three) → length ms ≤ i → Added f ms hs i acc → acc ≡ levels_from f 0 ms hs
-added_all f ms hs i acc past a =
-    sym (plus_none acc) ∙ ap (plus acc) (rw (drop_all i ms past) refl) ∙ a.whole

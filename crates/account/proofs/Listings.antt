@@ -1,7 +1,8 @@
 -- Lists of products and series, one more or one changed.
 use Rattle.std.proofs.Common.{◌≡◌, ℕ, zero, suc, ◌+◌, ◌<◌, ◌≤◌, Bool, true, ◌&&◌, leb, List, [], ◌∷◌, ◌++◌, length, get_or, take, drop, set, vec_items, vec_len, Vec, sym, refl, ap, ◌∙◌, subst, ⊎_elim, add-one, arith}
+use Rattle.std.specs.List.{list_all}
 use Rattle.std.specs.Vec.{with_items}
-use Rattle.std.proofs.lemmas.List.{with_items_is, get_or_append_left, get_or_push, length-set, length-map, at_drop_more, get_or_default}
+use Rattle.std.proofs.lemmas.List.{with_items_is, get_or_append_left, get_or_push, length-set, length-map, get_or_default}
 use Rattle.std.proofs.lemmas.List.Edits.{map_over_more}
 use Rattle.std.proofs.lemmas.Bool.{cases_lt, and_parts, leb-true}
 use Rattle.book.specs.declared.market.Quote.{Quote}
@@ -20,19 +21,12 @@ pushed {X} P xs ys x n m is long more all new i d lt =
     (λ (h : n ≤ i). subst P (sym (get_or_push xs x d i (omega arith))) new)
     (cases_lt i n))
 
--- whether the prices from i on are in range
-pub priced_more : (ps : List ℕ) (i : ℕ) (b : Bool) → i < length ps → b ≡ price_in_range (get_or ps i 0)
-    → (b && all price_in_range (drop (i + 1) ps)) ≡ all price_in_range (drop i ps)
-priced_more ps i b lt is =
-    ap (λ (x : Bool). x && all price_in_range (drop (i + 1) ps)) is ∙ sym (at_drop_more (all price_in_range) ps i 0 lt)
+pub list_all_is : {X : Type 0} (p : X → Bool) (xs : List X) → list_all p xs ≡ all p xs
+list_all_is p [] = refl
+list_all_is p (x ∷ xs) = ap (λ b. p x && b) (list_all_is p xs)
 
 pub price_small : (p : ℕ) → price_in_range p ≡ true → p ≤ 10_000_000
 price_small p h = leb-true p 10_000_000 (and_parts (leb 1 p) (leb p 10_000_000) h).1
-
-pub priced_at : (ps : List ℕ) → all price_in_range ps ≡ true → (i : ℕ) → get_or ps i 0 ≤ 10_000_000
-priced_at [] h i = omega arith
-priced_at (p ∷ ps) h zero = price_small p (and_parts (price_in_range p) (all price_in_range ps) h).0
-priced_at (p ∷ ps) h (suc i) = priced_at ps (and_parts (price_in_range p) (all price_in_range ps) h).1 i
 
 pub print_length : (ss : List Series) (i : ℕ) (q : Quote) → length (set ss i (with_quote q (series_at ss i))) ≡ length ss
 print_length ss i q = length-set ss i (with_quote q (series_at ss i))

@@ -31,6 +31,12 @@ pub record TradeFits (n : ℕ) (ps : List Position) (t : Trade) : Type 0 where
   pub net : unsigned_abs ((get_or ps t.series flat).net +ℤ t.lots) ≤ 1_000
   pub second : SecondFits n ps t t.second
 
+-- Positions with small numbers, on which a trade can be filled.
+pub record Fillable (n : ℕ) (ps : List Position) (t : Trade) : Type 0 where
+  pub nets : SmallNets ps
+  pub carries : SmallCarries (2 ^ 60) ps
+  pub fits : TradeFits n ps t
+
 abbrev pub OrderFits : ℕ → List Position → Option Order → Type 0
 OrderFits n ps None = Unit {0}
 OrderFits n ps (Some o) = TradeFits n ps o.trade

@@ -1,6 +1,6 @@
 //! Margin calls.
 ghost use Rattle.std.specs.Prelude.{◌≡◌, ◌^◌, ◌≤◌, pos, ◌-ℤ◌, unsigned_abs};
-ghost use Rattle.book.specs.MarginCalls.{at_least_zero, below, new_call, call_at_closing, call_at_opening, credited};
+ghost use Rattle.book.specs.MarginCalls.{at_least_zero, below, call_at_closing, call_at_opening, credited};
 ghost use Rattle.account.specs.Bounds.{Under};
 
 use book::account::MarginCall;
@@ -9,40 +9,22 @@ use book::account::MarginCall;
 pub fn credited(call: Option<MarginCall>, amount: u64) -> Option<MarginCall>
     ensures { result ≡ credited amount call }
 {
-    match call {
-        None => None,
-        Some(open) => {
-            let credit = open.credit.saturating_add(amount);
-            if credit >= open.amount {
-                None
-            } else {
-                Some(MarginCall {
-                    amount: open.amount,
-                    credit,
-                    age: open.age,
-                    low: open.low,
-                })
-            }
-        }
+    let open = call?;
+    let credit = open.credit.saturating_add(amount);
+    if credit >= open.amount {
+        return None;
     }
+    Some(MarginCall { credit, ..open })
 }
 
 /// An open call a day older.
 pub fn call_at_opening(call: Option<MarginCall>) -> Option<MarginCall>
     ensures { result ≡ call_at_opening call }
 {
-    match call {
-        None => None,
-        Some(open) => {
-            let age = open.age.saturating_add(1).min(2);
-            Some(MarginCall {
-                amount: open.amount,
-                credit: open.credit,
-                age,
-                low: open.low,
-            })
-        }
-    }
+    call.map(|open| MarginCall {
+        age: open.age.saturating_add(1).min(2),
+        ..open
+    })
 }
 
 /// Equity below a requirement.
@@ -54,11 +36,11 @@ fn below(equity: i128, level: u64) -> bool
 
 /// How far equity is short of the initial requirement.
 fn shortfall(equity: i128, initial: u64) -> u64
-    requires { (unsigned_abs equity ≤ 2 ^ 60) × (initial ≤ 2 ^ 60) }
+    requires equity { unsigned_abs equity ≤ 2 ^ 60 }
+    requires initial { initial ≤ 2 ^ 60 }
     ensures { result ≡ at_least_zero (pos initial -ℤ equity) }
 {
-    let short = initial as i128 - equity;
-    if short < 0 { 0 } else { short as u64 }
+    (initial as i128 - equity).max(0) as u64
 }
 
 /// The call that a closing leaves, at an equity balance and its initial, maintenance and force requirement.
@@ -74,27 +56,16 @@ pub fn call_at_closing(
     let (initial, maintenance, force) = levels;
     let low = below(equity, force);
     match call {
-        Some(open) => {
-            let low = open.low || low;
-            Some(MarginCall {
-                amount: open.amount,
-                credit: open.credit,
-                age: open.age,
-                low,
-            })
-        }
-        None => {
-            if below(equity, maintenance) {
-                let amount = shortfall(equity, initial);
-                Some(MarginCall {
-                    amount,
-                    credit: 0,
-                    age: 0,
-                    low,
-                })
-            } else {
-                None
-            }
-        }
+        Some(open) => Some(MarginCall {
+            low: open.low || low,
+            ..open
+        }),
+        None if below(equity, maintenance) => Some(MarginCall {
+            amount: shortfall(equity, initial),
+            credit: 0,
+            age: 0,
+            low,
+        }),
+        None => None,
     }
 }

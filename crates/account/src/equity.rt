@@ -1,8 +1,9 @@
 //! The equity balance.
-ghost use Rattle.std.specs.Prelude.{◌≡◌, ◌+◌, ◌^◌, ◌≤◌, length, ℤ, pos, ◌+ℤ◌, ◌-ℤ◌, ◌*ℤ◌, unsigned_abs};
+ghost use Rattle.std.specs.Prelude.{◌≡◌, ℕ, ◌^◌, ◌<◌, ◌≤◌, vec_len, pos, ◌*ℤ◌, unsigned_abs};
 ghost use Rattle.book.specs.Prices.{mark};
-ghost use Rattle.book.specs.Market.{holding, holdings};
-ghost use Rattle.book.specs.Equity.{gain, gains, equity};
+ghost use Rattle.book.specs.Market.{holding, series_at};
+ghost use Rattle.book.specs.Equity.{gain, equity};
+ghost use Rattle.account.specs.Balances.{IsBalance};
 ghost use Rattle.account.specs.View.{the_market};
 
 use crate::market::Market;
@@ -42,26 +43,23 @@ pub(crate) fn gain_in(series: Series, position: Position) -> i128
     scaled(series.multiplier, worth as i128 - position.carry as i128)
 }
 
-pub(crate) fn add(a: i128, b: i128) -> i128
-    requires { (unsigned_abs a ≤ 2 ^ 120) × (unsigned_abs b ≤ 2 ^ 120) }
-    ensures value { result ≡ a +ℤ b }
-    ensures size { unsigned_abs result ≤ unsigned_abs a + unsigned_abs b }
-{
-    a + b
-}
-
-/// What an account has gained in all series.
-fn gains_in(series: &[Series], positions: &[Position]) -> i128
-    requires few { length series.now ≤ 24 }
-    requires room { length series.now ≤ length positions.now }
-    ensures value { result ≡ gains (holdings series.now positions.now) }
-    ensures size { unsigned_abs result ≤ 2 ^ 102 }
-{
-    let mut sum: i128 = 0;
-    for i in 0..series.len() {
-        sum = add(sum, gain_in(series[i], positions[i]));
+impl<R> Market<R> {
+    /// The equity balance of an account, each series as it is valued.
+    pub(crate) fn balance<F: Fn(usize, Series) -> Series>(
+        &self,
+        account: &Account,
+        valued: F,
+    ) -> i128
+        requires { (i : ℕ) → i < vec_len self.now.series → F.pre valued i (series_at self.now.series.items i) }
+        ensures value { IsBalance (λ i. F.post valued i (series_at self.now.series.items i)) (vec_len self.now.series) account.now result }
+        ensures size { unsigned_abs result ≤ 2 ^ 103 }
+    {
+        let mut balance = account.cash as i128;
+        for (i, held) in self.series.iter().enumerate() {
+            balance += gain_in(valued(i, *held), account.positions[i]);
+        }
+        balance
     }
-    sum
 }
 
 impl<R: MarginRule> Market<R> {
@@ -70,8 +68,6 @@ impl<R: MarginRule> Market<R> {
         ensures value { result ≡ equity (the_market R.meaning self.now) account.now }
         ensures size { unsigned_abs result ≤ 2 ^ 103 }
     {
-        let positions: &[Position] = &account.positions;
-        let gains = gains_in(self.series.as_slice(), positions);
-        add(account.cash as i128, gains)
+        self.balance(account, |_, held| held)
     }
 }

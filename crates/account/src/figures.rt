@@ -6,17 +6,17 @@ ghost use Rattle.account.specs.View.{the_market};
 
 use crate::market::Market;
 use crate::orders::left_of;
-use book::account::{Account, Figures, Position};
+use book::account::{Account, Figures};
 use rules::rule::MarginRule;
 
 impl<R: MarginRule> Market<R> {
     /// An account's equity balance, requirements, free and open call.
+    #[tactic(auto, unfolding(book::specs::Orders::free))]
     pub fn figures(&self, account: &Account) -> Figures
         requires { Sound (vec_len self.now.series) account.now }
         ensures { result ≡ figures_of (the_market R.meaning self.now) account.now }
     {
-        let positions: &[Position] = &account.positions;
-        let (initial, maintenance, force) = self.requirements(positions);
+        let (initial, maintenance, force) = self.requirements(&account.positions);
         let equity = self.equity(account);
         let free = left_of(equity, initial, self.needs(account));
         Figures {

@@ -8,5 +8,6 @@ pub mod fill;
 pub mod listing;
 pub mod market;
 pub mod orders;
+pub mod prices;
 pub mod requirements;
 pub mod settle;

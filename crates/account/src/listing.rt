@@ -1,15 +1,14 @@
 //! How a market's products, series and prices change.
-ghost use Rattle.std.specs.Prelude.{◌≡◌, ◌^◌, ◌<◌, ◌≤◌, true, [], ◌∷◌, ◌++◌, length, IfOk, vec_len, slice_set, unsigned_abs};
+ghost use Rattle.std.specs.Prelude.{◌≡◌, ◌<◌, [], ◌∷◌, ◌++◌, length, IfOk, vec_len, slice_set};
 ghost use Rattle.rules.specs.PerLot.{Fits};
-ghost use Rattle.book.specs.Closing.{all};
-ghost use Rattle.book.specs.Equity.{gains, equity};
-ghost use Rattle.book.specs.Market.{holdings, series_at};
+ghost use Rattle.book.specs.Equity.{equity};
+ghost use Rattle.book.specs.Market.{series_at};
 ghost use Rattle.book.specs.Prices.{price_in_range, settled, printed, with_quote, open_prices, settle_prices};
 ghost use Rattle.account.specs.View.{the_market, with_products, with_series};
 
-use crate::equity::{add, gain_in};
 use crate::market::Market;
-use book::account::{Account, MAX_PRODUCTS, MAX_SERIES, Position};
+use crate::prices::SettlementPrices;
+use book::account::{Account, MAX_PRODUCTS, MAX_SERIES};
 use book::market::{Quote, Series};
 use rules::levels::RiskMargins;
 use rules::rule::MarginRule;
@@ -22,71 +21,37 @@ pub const MAX_PRICE: u64 = 10_000_000;
 pub fn is_price(price: u64) -> bool
     ensures { result ≡ price_in_range price }
 {
-    1 <= price && price <= MAX_PRICE
-}
-
-/// Whether every price is in range.
-pub fn all_priced(prices: &[u64]) -> bool
-    ensures { result ≡ all price_in_range prices.now }
-{
-    for i in 0..prices.len() {
-        if !is_price(prices[i]) {
-            return false;
-        }
-    }
-    true
+    (1..=MAX_PRICE).contains(&price)
 }
 
 /// A series whose day is closed at a settlement price.
-fn settled_at(series: Series, price: u64) -> Series
-    requires { price ≤ 10_000_000 }
-    ensures { result ≡ with_quote (settled price) series }
+fn settled_at(series: Series, settlement: u32) -> Series
+    ensures { result ≡ with_quote (settled settlement) series }
 {
     let quote = Quote {
-        settlement: price as u32,
+        settlement,
         last: None,
     };
-    Series {
-        product: series.product,
-        multiplier: series.multiplier,
-        quote,
-    }
+    Series { quote, ..series }
 }
 
 /// Series whose day begins without prints.
 fn open_all(series: &mut [Series])
     ensures { series.new ≡ open_prices series.old }
 {
-    for i in 0..series.len() {
-        series[i].quote.last = None;
+    for held in series.iter_mut() {
+        held.quote.last = None;
     }
 }
 
 /// Series whose day is closed, each at its settlement price.
-fn settle_all(series: &mut [Series], prices: &[u64])
+fn settle_all(series: &mut [Series], prices: &SettlementPrices)
     requires many { length prices.now ≡ length series.old }
-    requires priced { all price_in_range prices.now ≡ true }
     ensures { series.new ≡ settle_prices prices.now series.old }
 {
-    for i in 0..series.len() {
-        series[i] = settled_at(series[i], prices[i]);
+    for (i, held) in series.iter_mut().enumerate() {
+        *held = settled_at(*held, prices.of(i));
     }
-}
-
-/// What an account has gained in all series at their settlement prices.
-fn gains_at(series: &[Series], prices: &[u64], positions: &[Position]) -> i128
-    requires few { length series.now ≤ 24 }
-    requires room { length series.now ≤ length positions.now }
-    requires many { length prices.now ≡ length series.now }
-    requires priced { all price_in_range prices.now ≡ true }
-    ensures value { result ≡ gains (holdings (settle_prices prices.now series.now) positions.now) }
-    ensures size { unsigned_abs result ≤ 2 ^ 102 }
-{
-    let mut sum: i128 = 0;
-    for i in 0..series.len() {
-        sum = add(sum, gain_in(settled_at(series[i], prices[i]), positions[i]));
-    }
-    sum
 }
 
 impl<R: MarginRule + Drop> Market<R> {
@@ -148,22 +113,18 @@ impl<R: MarginRule> Market<R> {
     }
 
     /// The settlement prices of a day, one for each series.
-    pub fn settle(&mut self, prices: &[u64])
+    pub fn settle(&mut self, prices: &SettlementPrices)
         requires many { length prices.now ≡ vec_len self.old.series }
-        requires priced { all price_in_range prices.now ≡ true }
         ensures { the_market R.meaning self.new ≡ with_series (settle_prices prices.now self.old.series.items) (the_market R.meaning self.old) }
     {
         settle_all(self.series.as_mut_slice(), prices);
     }
 
     /// The equity balance of an account at settlement prices.
-    pub fn equity_at(&self, prices: &[u64], account: &Account) -> i128
+    pub fn equity_at(&self, prices: &SettlementPrices, account: &Account) -> i128
         requires many { length prices.now ≡ vec_len self.now.series }
-        requires priced { all price_in_range prices.now ≡ true }
         ensures value { result ≡ equity (with_series (settle_prices prices.now self.now.series.items) (the_market R.meaning self.now)) account.now }
     {
-        let positions: &[Position] = &account.positions;
-        let gains = gains_at(self.series.as_slice(), prices, positions);
-        add(account.cash as i128, gains)
+        self.balance(account, |i, held| settled_at(held, prices.of(i)))
     }
 }

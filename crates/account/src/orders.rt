@@ -1,9 +1,9 @@
 //! Trades and orders: what a fill does to positions, and what an order needs.
-ghost use Rattle.std.specs.Prelude.{◌≡◌, ℕ, ◌+◌, ◌^◌, ◌<◌, ◌≤◌, true, length, pos, ◌-ℤ◌, vec_len, slice_index_or, unsigned_abs};
+ghost use Rattle.std.specs.Prelude.{◌≡◌, ◌^◌, ◌<◌, ◌≤◌, length, pos, ◌-ℤ◌, vec_len, slice_index_or, unsigned_abs};
+ghost use Rattle.std.specs.Option.{IfSome, option_map, unwrap_or};
 ghost use Rattle.book.specs.Market.{flat};
-ghost use Rattle.book.specs.Orders.{moved, fill_leg, filled, mark_at, second_mark, filled_now, imr, need, lowers, order_need, needs, free};
-ghost use Rattle.book.specs.Requirements.{requirements};
-ghost use Rattle.account.specs.Bounds.{SmallNets, SmallCarries, TradeFits, OrderFits, Sound, Below, Under};
+ghost use Rattle.book.specs.Orders.{moved, fill_leg, filled, mark_at, imr, imr_after, need, lowers, order_need, needs, free};
+ghost use Rattle.account.specs.Bounds.{SmallNets, Fillable, Sound, Below};
 ghost use Rattle.account.specs.View.{the_market};
 
 use crate::equity::{mark_of, value_at};
@@ -25,6 +25,7 @@ fn moved(position: Position, lots: i32, price: u32) -> Position
 }
 
 /// A leg filled at a price.
+#[tactic(auto, unfolding(book::specs::Orders::fill_leg))]
 fn fill_leg(positions: &mut [Position], series: usize, lots: i32, price: u32)
     requires there { series < length positions.old }
     requires lots { unsigned_abs lots ≤ 1_000 }
@@ -36,25 +37,24 @@ fn fill_leg(positions: &mut [Position], series: usize, lots: i32, price: u32)
 }
 
 /// A trade filled whole, its lots at the first price and the opposite lots of a second series at the second.
-pub fn fill_trade(positions: &mut [Position], trade: Trade, price: u32, second_price: u32)
-    requires fits { TradeFits (length positions.old) positions.old trade }
-    requires nets { SmallNets positions.old }
-    requires carries { SmallCarries (2 ^ 60) positions.old }
-    ensures { positions.new ≡ filled trade price second_price positions.old }
+pub fn fill_trade(positions: &mut [Position], trade: Trade, price: u32, second_price: Option<u32>)
+    requires { Fillable (length positions.old) positions.old trade }
+    ensures value { positions.new ≡ filled trade price (unwrap_or second_price 0) positions.old }
+    ensures nets { SmallNets positions.new }
 {
     fill_leg(positions, trade.series, trade.lots, price);
     if let Some(second) = trade.second {
-        fill_leg(positions, second, -trade.lots, second_price);
+        fill_leg(positions, second, -trade.lots, second_price.unwrap_or(0));
     }
 }
 
 /// What is left of an equity balance.
-pub(crate) fn left_of(equity: i128, initial: u64, needs: u64) -> i128
+pub(crate) fn left_of(equity: i128, initial: u64, needed: u64) -> i128
     requires { unsigned_abs equity ≤ 2 ^ 103 }
-    ensures value { result ≡ equity -ℤ pos initial -ℤ pos needs }
+    ensures value { result ≡ equity -ℤ pos initial -ℤ pos needed }
     ensures size { unsigned_abs result ≤ 2 ^ 104 }
 {
-    equity - initial as i128 - needs as i128
+    equity - initial as i128 - needed as i128
 }
 
 impl<R: MarginRule> Market<R> {
@@ -67,80 +67,62 @@ impl<R: MarginRule> Market<R> {
     }
 
     /// The mark of a second series, if any.
-    fn second_mark(&self, second: Option<usize>) -> u32
+    fn second_mark(&self, second: Option<usize>) -> Option<u32>
         requires { Below second (vec_len self.now.series) }
-        ensures { result ≡ second_mark self.now.series.items second }
+        ensures { result ≡ option_map (mark_at self.now.series.items) second }
     {
-        match second {
-            None => 0,
-            Some(j) => self.mark_at(j),
-        }
-    }
-
-    /// The requirements of an account if a trade were filled now.
-    fn requirements_after(&self, account: &Account, trade: Trade) -> (u64, u64, u64)
-        requires nets { SmallNets account.now.positions }
-        requires carries { SmallCarries (2 ^ 60) account.now.positions }
-        requires fits { TradeFits (vec_len self.now.series) account.now.positions trade }
-        ensures value { result ≡ requirements (the_market R.meaning self.now) (filled_now self.now.series.items trade account.now.positions) }
-        ensures size { Under (2 ^ 49) result }
-    {
-        let price = self.mark_at(trade.series);
-        let second_price = self.second_mark(trade.second);
-        let _before: &[Position] = &account.positions;
-        let mut positions = account.positions;
-        fill_trade(&mut positions, trade, price, second_price);
-        self.requirements(&positions)
+        second.map(|j| self.mark_at(j))
     }
 
     /// The initial requirement of an account.
-    fn imr(&self, account: &Account) -> u64
+    pub(crate) fn imr(&self, account: &Account) -> u64
         requires { SmallNets account.now.positions }
         ensures value { result ≡ imr (the_market R.meaning self.now) account.now }
         ensures size { result ≤ 2 ^ 49 }
     {
-        let positions: &[Position] = &account.positions;
-        let (initial, _, _) = self.requirements(positions);
-        initial
+        self.requirements(&account.positions).0
+    }
+
+    /// The initial requirement of an account if a trade were filled now.
+    fn imr_after(&self, account: &Account, trade: Trade) -> u64
+        requires { Fillable (vec_len self.now.series) account.now.positions trade }
+        ensures value { result ≡ imr_after (the_market R.meaning self.now) trade account.now }
+        ensures size { result ≤ 2 ^ 49 }
+    {
+        let price = self.mark_at(trade.series);
+        let second_price = self.second_mark(trade.second);
+        let mut after = *account;
+        fill_trade(&mut after.positions, trade, price, second_price);
+        self.imr(&after)
     }
 
     /// The rise of the initial requirement if a trade were filled now, or 0.
+    #[tactic(auto, unfolding(book::specs::Orders::need))]
     pub fn need(&self, account: &Account, trade: Trade) -> u64
-        requires nets { SmallNets account.now.positions }
-        requires carries { SmallCarries (2 ^ 60) account.now.positions }
-        requires fits { TradeFits (vec_len self.now.series) account.now.positions trade }
+        requires { Fillable (vec_len self.now.series) account.now.positions trade }
         ensures value { result ≡ need (the_market R.meaning self.now) trade account.now }
         ensures size { result ≤ 2 ^ 49 }
     {
-        let before = self.imr(account);
-        let (after, _, _) = self.requirements_after(account, trade);
-        after.saturating_sub(before)
+        self.imr_after(account, trade)
+            .saturating_sub(self.imr(account))
     }
 
     /// Whether the initial requirement would fall if a trade were filled now.
+    #[tactic(auto, unfolding(book::specs::Orders::lowers))]
     pub fn lowers(&self, account: &Account, trade: Trade) -> bool
-        requires nets { SmallNets account.now.positions }
-        requires carries { SmallCarries (2 ^ 60) account.now.positions }
-        requires fits { TradeFits (vec_len self.now.series) account.now.positions trade }
+        requires { Fillable (vec_len self.now.series) account.now.positions trade }
         ensures { result ≡ lowers (the_market R.meaning self.now) trade account.now }
     {
-        let before = self.imr(account);
-        let (after, _, _) = self.requirements_after(account, trade);
-        after < before
+        self.imr_after(account, trade) < self.imr(account)
     }
 
     /// The need of an open order, if there is one.
     fn order_need(&self, account: &Account, order: Option<Order>) -> u64
-        requires nets { SmallNets account.now.positions }
-        requires carries { SmallCarries (2 ^ 60) account.now.positions }
-        requires fits { OrderFits (vec_len self.now.series) account.now.positions order }
+        requires { IfSome order (λ o. Fillable (vec_len self.now.series) account.now.positions o.trade) }
         ensures value { result ≡ order_need (the_market R.meaning self.now) account.now order }
         ensures size { result ≤ 2 ^ 49 }
     {
-        match order {
-            None => 0,
-            Some(open) => self.need(account, open.trade),
-        }
+        order.map_or(0, |open| self.need(account, open.trade))
     }
 
     /// The needs of all open orders.
@@ -149,15 +131,17 @@ impl<R: MarginRule> Market<R> {
         ensures value { result ≡ needs (the_market R.meaning self.now) account.now account.now.orders }
         ensures size { result ≤ 2 ^ 52 }
     {
+        // As a slice: over the array itself the sum's end was not proved.
         let orders: &[Option<Order>] = &account.orders;
         let mut sum = 0;
-        for i in 0..orders.len() {
-            sum += self.order_need(account, orders[i]);
+        for order in orders {
+            sum += self.order_need(account, *order);
         }
         sum
     }
 
     /// The equity balance less the initial requirement and the needs of all open orders.
+    #[tactic(auto, unfolding(book::specs::Orders::free))]
     pub fn free(&self, account: &Account) -> i128
         requires { Sound (vec_len self.now.series) account.now }
         ensures value { result ≡ free (the_market R.meaning self.now) account.now }

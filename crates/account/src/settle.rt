@@ -1,5 +1,5 @@
 //! What Closing does to an account.
-ghost use Rattle.std.specs.Prelude.{◌≡◌, ◌≤◌, true, length, vec_len};
+ghost use Rattle.std.specs.Prelude.{◌≡◌, true};
 ghost use Rattle.book.specs.Closing.{settle_positions, settle_account};
 ghost use Rattle.book.specs.Equity.{equity};
 ghost use Rattle.book.specs.House.{cash_fits};
@@ -9,8 +9,7 @@ ghost use Rattle.account.specs.View.{the_market};
 use crate::calls::call_at_closing;
 use crate::equity::{mark_of, value_at};
 use crate::market::Market;
-use book::account::{Account, Position};
-use book::market::Series;
+use book::account::{Account, MAX_SERIES, Position};
 use rules::rule::MarginRule;
 
 /// The most cash of an account, in satang.
@@ -20,23 +19,19 @@ pub const MAX_CASH: i128 = 100_000_000_000_000_000;
 pub fn cash_fits(cash: i128) -> bool
     ensures { result ≡ cash_fits cash }
 {
-    -MAX_CASH <= cash && cash <= MAX_CASH
+    (-MAX_CASH..=MAX_CASH).contains(&cash)
 }
 
-/// Positions whose carry is net lots × settlement price.
-fn settled(series: &[Series], positions: [Position; 24]) -> [Position; 24]
-    requires { length series.now ≤ 24 }
-    ensures { result ≡ settle_positions series.now positions }
-{
-    let mut after = positions;
-    for i in 0..series.len() {
-        let net = positions[i].net;
-        after[i] = Position {
-            net,
-            carry: value_at(net, mark_of(series[i].quote)),
-        };
+impl<R> Market<R> {
+    /// Positions whose carry is net lots × settlement price.
+    fn settled_positions(&self, mut positions: [Position; MAX_SERIES]) -> [Position; MAX_SERIES]
+        ensures { result ≡ settle_positions self.now.series.items positions }
+    {
+        for (i, held) in self.series.iter().enumerate() {
+            positions[i].carry = value_at(positions[i].net, mark_of(held.quote));
+        }
+        positions
     }
-    after
 }
 
 impl<R: MarginRule> Market<R> {
@@ -47,15 +42,14 @@ impl<R: MarginRule> Market<R> {
         ensures { result ≡ settle_account (the_market R.meaning self.now) account.now }
     {
         let equity = self.equity(account);
-        let before: &[Position] = &account.positions;
-        let levels = self.requirements(before);
+        let levels = self.requirements(&account.positions);
         let call = call_at_closing(equity, levels, account.call);
-        let positions = settled(self.series.as_slice(), account.positions);
+        let positions = self.settled_positions(account.positions);
         Account {
             cash: equity as i64,
             positions,
-            orders: account.orders,
             call,
+            ..*account
         }
     }
 }

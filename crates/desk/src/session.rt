@@ -1,9 +1,9 @@
 //! A script's house, from the line that sets it up to the script's end.
-use crate::calls::{on_closed, on_trading};
-use crate::reply::Reply;
+use crate::calls::{Desk, on_closed};
+use core::mem::replace_with;
 use house::states::{Closed, Trading};
-use house::ticket::Ticket;
 use rules::rule::RuleChoice;
+use script::answer::{Answer, Fault, Reply};
 use script::command::Command;
 use std::alloc::{AllocError, Global};
 
@@ -11,86 +11,77 @@ use std::alloc::{AllocError, Global};
 pub enum Session {
     /// No house is set up yet.
     Waiting,
-    Closed(Closed<RuleChoice>, Vec<Ticket>),
-    Trading(Trading<RuleChoice>, Vec<Ticket>),
+    Closed(Desk<Closed<RuleChoice>>),
+    Trading(Desk<Trading<RuleChoice>>),
 }
 
-/// A call before a house is set up.
-fn set_up(heap: Global, command: Command) -> (Session, Result<Reply, AllocError>) {
-    match command {
-        Command::House { number, rule } => match Closed::new(heap, number, rule) {
-            Ok(house) => (Session::Closed(house, Vec::new(heap)), Ok(Reply::Done)),
-            Err(e) => (Session::Waiting, Err(e)),
-        },
-        _ => (Session::Waiting, Ok(Reply::Unreadable)),
-    }
-}
+/// Where a command moves the session, and what it is replied.
+type Moved = (Session, Result<Reply, AllocError>);
 
-fn with_closed(
-    mut house: Closed<RuleChoice>,
-    tickets: Vec<Ticket>,
-    command: Command,
-) -> (Session, Result<Reply, AllocError>) {
-    match command {
-        Command::Opening => (Session::Trading(house.opening(), tickets), Ok(Reply::Done)),
-        _ => {
-            let reply = on_closed(&mut house, command);
-            (Session::Closed(house, tickets), Ok(reply))
+/// Sets a house up, closed.
+fn set_up(heap: Global, number: u32, rule: RuleChoice) -> Moved {
+    // Not by `?`: the session comes back beside the error.
+    match Closed::new(heap, number, rule) {
+        Ok(house) => {
+            let tickets = Vec::new(heap);
+            (
+                Session::Closed(Desk { house, tickets }),
+                Ok(Ok(Answer::Done)),
+            )
         }
+        Err(e) => (Session::Waiting, Err(e)),
     }
 }
 
-/// Closing, which hands a refused house back.
-fn close(
-    house: Trading<RuleChoice>,
-    tickets: Vec<Ticket>,
-    prices: &[u64],
-) -> (Session, Result<Reply, AllocError>) {
+/// Begins a trading day.
+fn open(Desk { house, tickets }: Desk<Closed<RuleChoice>>) -> Moved {
+    let house = house.opening();
+    (
+        Session::Trading(Desk { house, tickets }),
+        Ok(Ok(Answer::Done)),
+    )
+}
+
+/// Closes the house; one that refuses stays trading.
+fn close(Desk { house, tickets }: Desk<Trading<RuleChoice>>, prices: &[u64]) -> Moved {
     match house.closing(prices) {
-        Ok(closed) => (Session::Closed(closed, tickets), Ok(Reply::Done)),
-        Err(back) => {
-            let (trading, why) = back;
-            (Session::Trading(trading, tickets), Ok(Reply::Refused(why)))
-        }
-    }
-}
-
-fn with_trading(
-    mut house: Trading<RuleChoice>,
-    mut tickets: Vec<Ticket>,
-    command: Command,
-    prices: &[u64],
-) -> (Session, Result<Reply, AllocError>) {
-    match command {
-        Command::Closing => close(house, tickets, prices),
-        _ => {
-            let reply = on_trading(&mut house, &mut tickets, command);
-            (Session::Trading(house, tickets), reply)
-        }
+        Ok(house) => (
+            Session::Closed(Desk { house, tickets }),
+            Ok(Ok(Answer::Done)),
+        ),
+        Err((house, refusal)) => (
+            Session::Trading(Desk { house, tickets }),
+            Ok(Err(Fault::Refused(refusal))),
+        ),
     }
 }
 
 impl Session {
-    /// The session after a command, and what the command is answered.
-    pub fn next(
-        self,
-        heap: Global,
-        command: Command,
-        prices: &[u64],
-    ) -> (Session, Result<Reply, AllocError>) {
+    /// What a command is replied. House, Opening and Closing move the session on; the rest is done in place.
+    pub fn next(&mut self, heap: Global, command: Command<'_>) -> Result<Reply, AllocError> {
         match self {
-            Session::Waiting => set_up(heap, command),
-            Session::Closed(house, tickets) => with_closed(house, tickets, command),
-            Session::Trading(house, tickets) => with_trading(house, tickets, command, prices),
+            Session::Closed(desk) if !matches!(command, Command::Opening) => {
+                return Ok(on_closed(&mut desk.house, command));
+            }
+            Session::Trading(desk) if !matches!(command, Command::Closing { .. }) => {
+                return desk.on_trading(command);
+            }
+            _ => {}
         }
+        replace_with(self, command, |session, command| match (session, command) {
+            (Session::Waiting, Command::House { number, rule }) => set_up(heap, number, rule),
+            (Session::Closed(desk), Command::Opening) => open(desk),
+            (Session::Trading(desk), Command::Closing { prices }) => close(desk, prices),
+            (session, _) => (session, Ok(Err(Fault::Unreadable))),
+        })
     }
 
     /// Ends the session.
     pub fn end(self) {
         match self {
             Session::Waiting => {}
-            Session::Closed(house, tickets) => house.shut_down(tickets),
-            Session::Trading(house, tickets) => house.shut_down(tickets),
+            Session::Closed(Desk { house, tickets }) => house.shut_down(tickets),
+            Session::Trading(Desk { house, tickets }) => house.shut_down(tickets),
         }
     }
 }

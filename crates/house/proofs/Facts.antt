@@ -22,7 +22,7 @@ SecondFills ss ps q t (Some j) =
     (j < length ss) × ((t.series ≡ j → ⊥) × ((product_of ss j ≡ q) × (nat_abs (net_after ps j (neg_ℤ t.lots)) ≤ 1_000)))
 
 -- A trade in a product that can be filled.
-pub record Fillable (ss : List Series) (ps : List Position) (q : ℕ) (t : Trade) : Type 0 where
+pub record FillableIn (ss : List Series) (ps : List Position) (q : ℕ) (t : Trade) : Type 0 where
   pub there : t.series < length ss
   pub product : product_of ss t.series ≡ q
   pub lots : nat_abs t.lots ≤ 1_000
@@ -31,7 +31,7 @@ pub record Fillable (ss : List Series) (ps : List Position) (q : ℕ) (t : Trade
 
 abbrev pub SlotFits : List Series → List Position → ℕ → Option Order → Type 0
 SlotFits ss ps q None = Unit {0}
-SlotFits ss ps q (Some o) = Fillable ss ps q o.trade
+SlotFits ss ps q (Some o) = FillableIn ss ps q o.trade
 
 pub record Facts (ss : List Series) (n : ℕ) (x : Account) : Type 0 where
   pub cash : nat_abs x.cash ≤ max_cash
@@ -57,7 +57,7 @@ decides_second ss ps q t (Some j) =
     Decides-like (second_sound ss ps q t (Some j)) (λ h. (h.1.0, (h.0, h.1.1))) (λ h. (h.1.0, (h.0, h.1.1)))
     (Decides-and (not (eqb t.series j)) (leg_sound ss ps q j (neg_ℤ t.lots)) (Decides-not (eqb t.series j) (Decides-eqb t.series j)) (decides_leg ss ps q j (neg_ℤ t.lots)))
 
-decides_trade : (ss : List Series) (ps : List Position) (q : ℕ) (t : Trade) → Decides (trade_sound ss ps q t) (Fillable ss ps q t)
+decides_trade : (ss : List Series) (ps : List Position) (q : ℕ) (t : Trade) → Decides (trade_sound ss ps q t) (FillableIn ss ps q t)
 unfolding trade_sound
 decides_trade ss ps q t =
     Decides-like (trade_sound ss ps q t)
@@ -66,10 +66,10 @@ decides_trade ss ps q t =
     (Decides-and (leb (nat_abs t.lots) 1_000) (leg_sound ss ps q t.series t.lots && second_sound ss ps q t t.second) (decides_leb (nat_abs t.lots) 1_000)
     (Decides-and (leg_sound ss ps q t.series t.lots) (second_sound ss ps q t t.second) (decides_leg ss ps q t.series t.lots) (decides_second ss ps q t t.second)))
 
-pub fillable_facts : (ss : List Series) (ps : List Position) (q : ℕ) (t : Trade) → trade_sound ss ps q t ≡ true → Fillable ss ps q t
+pub fillable_facts : (ss : List Series) (ps : List Position) (q : ℕ) (t : Trade) → trade_sound ss ps q t ≡ true → FillableIn ss ps q t
 fillable_facts ss ps q t = (decides_trade ss ps q t).0
 
-pub fillable_test : (ss : List Series) (ps : List Position) (q : ℕ) (t : Trade) → Fillable ss ps q t → trade_sound ss ps q t ≡ true
+pub fillable_test : (ss : List Series) (ps : List Position) (q : ℕ) (t : Trade) → FillableIn ss ps q t → trade_sound ss ps q t ≡ true
 fillable_test ss ps q t = (decides_trade ss ps q t).1
 
 -- each position's part of the test
@@ -179,7 +179,7 @@ facts ss n x = (decides_sound ss n x).0
 pub test : (ss : List Series) (n : ℕ) (x : Account) → Facts ss n x → sound ss n x ≡ true
 test ss n x = (decides_sound ss n x).1
 
-pub trade_fits : (ss : List Series) (ps : List Position) (q : ℕ) (t : Trade) → Fillable ss ps q t → TradeFits (length ss) ps t
+pub trade_fits : (ss : List Series) (ps : List Position) (q : ℕ) (t : Trade) → FillableIn ss ps q t → TradeFits (length ss) ps t
 trade_fits ss ps q t f = record { there = f.there; lots = f.lots; net = f.net; second = by t.second f.second }
   where
     by : (o : Option ℕ) → SecondFills ss ps q t o → SecondFits (length ss) ps t o
@@ -187,12 +187,12 @@ trade_fits ss ps q t f = record { there = f.there; lots = f.lots; net = f.net; s
     by (Some j) s = (s.0, (s.1.0, s.1.1.1))
 
 -- what an account's figures ask for
-pub bounded : (ss : List Series) (n : ℕ) (x : Account) → n ≤ 9_999 → sound ss n x ≡ true → Sound (length ss) x
-bounded ss n x few h = record {
+pub bounded : (ss : List Series) (n k : ℕ) (x : Account) → k ≡ length ss → n ≤ 9_999 → sound ss n x ≡ true → Sound k x
+bounded ss n k x long few h = rw long (record {
   nets = f.nets;
   carries = λ j. ⊎_elim (λ lt. omega (arith, f.carries j lt)) (λ le. rw (get_or_past x.positions j flat le) (omega arith)) (cases_lt j (length x.positions));
   orders = λ q. by q (get_or x.orders q None) (f.slots q);
-}
+})
   where
     f : Facts ss n x
     f = facts ss n x h

@@ -1,8 +1,9 @@
 -- What each change of an account leaves sound.
-use Rattle.std.proofs.Common.{◌≡◌, ℕ, zero, suc, ◌+◌, ◌<◌, ◌≤◌, Bool, true, false, List, [], ◌∷◌, ◌++◌, map, length, get_or, set, replicate, ℤ, pos, ◌+ℤ◌, ◌*ℤ◌, neg_ℤ, nat_abs, Some, None, Option, sym, refl, ap, ◌∙◌, subst, ⊎_elim, arith, length-set, get_or-set_other, get_or-set_same}
-use Rattle.std.proofs.lemmas.List.{get_or_append_left, get_or-map, get_or_past, get_or_push, get_or-replicate, length-map, length_push, length-replicate}
+use Rattle.std.proofs.Common.{◌≡◌, ℕ, zero, suc, ◌+◌, ◌<◌, ◌≤◌, Bool, true, false, ◌&&◌, unwrap_or, List, [], ◌∷◌, ◌++◌, map, length, get_or, set, replicate, ℤ, pos, ◌+ℤ◌, ◌*ℤ◌, neg_ℤ, nat_abs, Some, None, Option, Vec, vec_items, vec_len, sym, refl, ap, ◌∙◌, subst, ⊎_elim, arith, length-set, get_or-set_other, get_or-set_same}
+use Rattle.std.specs.Vec.{with_items}
+use Rattle.std.proofs.lemmas.List.{with_items_is, get_or_append_left, get_or-map, get_or_past, get_or-replicate, length-map, length_push, length-replicate}
 use Rattle.std.proofs.lemmas.Int.{ints}
-use Rattle.std.proofs.lemmas.Bool.{leb-true, cases_eq, cases_lt}
+use Rattle.std.proofs.lemmas.Bool.{leb-true, cases_eq, cases_lt, and_parts}
 use Rattle.book.specs.declared.account.Account.{Account}
 use Rattle.book.specs.declared.account.MarginCall.{MarginCall}
 use Rattle.book.specs.declared.account.Order.{Order}
@@ -16,35 +17,33 @@ use Rattle.book.specs.House.{max_cash, cash_fits, new_account}
 use Rattle.book.specs.Market.{Market, flat, no_series, product_of, series_at}
 use Rattle.book.specs.Orders.{any_open, fill_leg, fill_second, filled}
 use Rattle.book.specs.ForcedList.{with_fill}
-use Rattle.book.specs.Prices.{mark}
-use Rattle.book.specs.TradingCalls.{with_cash, with_order, order_in, sent}
+use Rattle.book.specs.Prices.{mark, price_in_range}
+use Rattle.book.specs.TradingCalls.{with_cash, with_order, order_in, second_in_range, sent}
 use Rattle.account.proofs.Fills.{leg_length, leg_other, leg_here, filled_length, filled_nets}
+use Rattle.account.proofs.Listings.{price_small}
 use Rattle.account.proofs.Sizes.{abs_product}
 use Rattle.house.specs.Sound.{largest_leg, open_count, net_after, trade_sound, sound}
-use Rattle.house.proofs.Facts.{SecondFills, Fillable, SlotFits, Facts, fillable_facts, facts, test, trade_fits}
+use Rattle.house.proofs.Facts.{SecondFills, FillableIn, SlotFits, Facts, fillable_facts, facts, test, trade_fits}
 
 -- Every account of a list passes a test.
 abbrev pub Each : (Account → Bool) → List Account → Type 0
 Each p xs = (k : ℕ) (d : Account) → k < length xs → p (get_or xs k d) ≡ true
 
-pub each_set : (p : Account → Bool) (xs : List Account) (a : ℕ) (x : Account) → Each p xs → p x ≡ true → Each p (set xs a x)
+each_set : (p : Account → Bool) (xs : List Account) (a : ℕ) (x : Account) → Each p xs → p x ≡ true → Each p (set xs a x)
 each_set p xs a x each here k d lt =
     let there : k < length xs = omega (arith, length-set xs a x) in
     ⊎_elim (λ (e : a ≡ k). subst (λ (i : ℕ). p (get_or (set xs a x) i d) ≡ true) e (ap p (get_or-set_same xs a x d (omega arith)) ∙ here))
     (λ apart. ap p (get_or-set_other xs a k x d (λ e. apart (sym e))) ∙ each k d there) (cases_eq a k)
-
-pub each_push : (p : Account → Bool) (xs : List Account) (x : Account) → Each p xs → p x ≡ true → Each p (xs ++ x ∷ [])
-each_push p xs x each here k d lt =
-    ⊎_elim (λ (old : k < length xs). ap p (get_or_append_left xs (x ∷ []) d k old) ∙ each k d old)
-    (λ (new : length xs ≤ k). ap p (get_or_push xs x d k (omega (arith, length_push xs x))) ∙ here) (cases_lt k (length xs))
 
 pub each_map : (p p' : Account → Bool) (f : Account → Account) (xs : List Account) → ((x : Account) → p x ≡ true → p' (f x) ≡ true) → Each p xs → Each p' (map f xs)
 each_map p p' f xs keeps each k d lt =
     let there : k < length xs = omega (arith, length-map xs f) in
     ap p' (get_or-map f xs k d d there) ∙ keeps (get_or xs k d) (each k d there)
 
-pub each_imp : (p p' : Account → Bool) (xs : List Account) → ((x : Account) → p x ≡ true → p' x ≡ true) → Each p xs → Each p' xs
-each_imp p p' xs keeps each k d lt = keeps (get_or xs k d) (each k d lt)
+-- a Vec whose items were written over
+pub each_written : {Z : Type 0} (p : Account → Bool) (v : Vec Account Z) (ws xs : List Account) → length ws ≡ vec_len v → ws ≡ xs → Each p xs
+    → (k : ℕ) (d : Account) → k < vec_len v → p (get_or (vec_items (with_items v ws)) k d) ≡ true
+each_written p v ws xs long is each k d lt = rw (with_items_is v ws long, is) (each k d (omega (arith, ap length is)))
 
 pub keeps_cash : (ss : List Series) (n : ℕ) (z : ℤ) (call : Option MarginCall) (x : Account) → sound ss n x ≡ true → cash_fits z ≡ true → sound ss n (with_cash z call x) ≡ true
 keeps_cash ss n z call x h fits =
@@ -102,7 +101,7 @@ slots_set P os q o here others past k =
         ⊎_elim (λ lt. subst (P q) (sym (get_or-set_same os q o None lt)) here)
         (λ le. subst (P q) (sym (get_or_past (set os q o) q None (omega (arith, length-set os q o)))) (past le)) (cases_lt q (length os))
 
-pub keeps_placed : (ss : List Series) (n : ℕ) (x : Account) (q : ℕ) (o : Order) → sound ss n x ≡ true → q < length x.orders → order_in x q ≡ None
+keeps_placed : (ss : List Series) (n : ℕ) (x : Account) (q : ℕ) (o : Order) → sound ss n x ≡ true → q < length x.orders → order_in x q ≡ None
     → trade_sound ss x.positions q o.trade ≡ true → sound ss (n + 1) (with_order q (Some o) x) ≡ true
 keeps_placed ss n x q o h lt none fits =
     let f = facts ss n x h in
@@ -139,7 +138,7 @@ keeps_ended ss n x q h =
 -- a trade that can be filled still can among other series and positions, if the products are the same and so are net lots in the trade's product
 fillable_still : (ss ss' : List Series) (ps ps' : List Position) (q : ℕ) (t : Trade) → length ss ≤ length ss'
     → ((i : ℕ) → i < length ss → product_of ss' i ≡ product_of ss i)
-    → ((i : ℕ) → product_of ss i ≡ q → get_or ps' i flat ≡ get_or ps i flat) → Fillable ss ps q t → Fillable ss' ps' q t
+    → ((i : ℕ) → product_of ss i ≡ q → get_or ps' i flat ≡ get_or ps i flat) → FillableIn ss ps q t → FillableIn ss' ps' q t
 fillable_still ss ss' ps ps' q t more products same f = record {
   there = omega (arith, f.there);
   product = products t.series f.there ∙ f.product;
@@ -273,7 +272,7 @@ leg_carry i j lots price ps there few low =
         (omega (arith, abs_sum (get_or ps i flat).carry (lots *ℤ pos price), abs_product lots (pos price) 1_000 10_000_000 few low))
 
 -- a trade of a product that is filled
-module _ (ss : List Series) (ps : List Position) (q : ℕ) (t : Trade) (price second_price : ℕ) (f : Fillable ss ps q t) where
+module _ (ss : List Series) (ps : List Position) (q : ℕ) (t : Trade) (price second_price : ℕ) (f : FillableIn ss ps q t) where
   -- leaves what is of another product, or not entered
   filled_other : (j : ℕ) → ((i : ℕ) → i < length ss → product_of ss i ≡ q → i ≡ j → ⊥) → get_or (filled t price second_price ps) j flat ≡ get_or ps j flat
   filled_other j other = by t.second f.second ∙ leg_other t.series j t.lots price ps (other t.series f.there f.product)
@@ -305,10 +304,14 @@ module _ (ss : List Series) (ps : List Position) (q : ℕ) (t : Trade) (price se
           rw (← leg_other t.series j t.lots price ps apart) more)
           (cases_eq t.series j)
 
-pub keeps_filled : (ss : List Series) (n : ℕ) (m : Market) (x : Account) (q : ℕ) (o : Order) (price second_price : ℕ)
-    → length ss ≤ length x.positions → price ≤ 10_000_000 → second_price ≤ 10_000_000 → sound ss n x ≡ true → order_in x q ≡ Some o
-    → sound ss n (with_order q None (with_fill m (filled o.trade price second_price x.positions) x)) ≡ true
-keeps_filled ss n m x q o price second_price room low second-low h is = test ss n (with_order q None (with_fill m qs x)) (record {
+second_small : (o : Option ℕ) → second_in_range o ≡ true → unwrap_or o 0 ≤ 10_000_000
+second_small None h = omega arith
+second_small (Some p) h = price_small p h
+
+pub keeps_filled : (ss : List Series) (n : ℕ) (m : Market) (x : Account) (q : ℕ) (o : Order) (price : ℕ) (second : Option ℕ)
+    → length ss ≤ length x.positions → (price_in_range price && second_in_range second) ≡ true → sound ss n x ≡ true → order_in x q ≡ Some o
+    → sound ss n (with_order q None (with_fill m (filled o.trade price (unwrap_or second 0) x.positions) x)) ≡ true
+keeps_filled ss n m x q o price second room ranged h is = test ss n (with_order q None (with_fill m qs x)) (record {
   cash = f.cash;
   nets = filled_nets (length ss) o.trade price second_price ps room (trade_fits ss ps q o.trade fits) f.nets;
   carries = λ j lt. omega (
@@ -324,13 +327,25 @@ keeps_filled ss n m x q o price second_price room low second-low h is = test ss 
     ps : List Position
     ps = x.positions
 
+    second_price : ℕ
+    second_price = unwrap_or second 0
+
     qs : List Position
     qs = filled o.trade price second_price ps
+
+    both : (price_in_range price ≡ true) × (second_in_range second ≡ true)
+    both = and_parts (price_in_range price) (second_in_range second) ranged
+
+    low : price ≤ 10_000_000
+    low = price_small price both.0
+
+    second-low : second_price ≤ 10_000_000
+    second-low = second_small second both.1
 
     f : Facts ss n x
     f = facts ss n x h
 
-    fits : Fillable ss ps q o.trade
+    fits : FillableIn ss ps q o.trade
     fits = subst (SlotFits ss ps q) is (f.slots q)
 
     -- the other slots are of other products
@@ -340,10 +355,14 @@ keeps_filled ss n m x q o price second_price room low second-low h is = test ss 
         (λ j of. filled_other ss ps q o.trade price second_price fits j (λ i lt is' e. apart (sym is' ∙ ap (product_of ss) e ∙ of)))
         (f.slots k)
 
--- every account is sound where one of them was replaced and an order was added to the day's
-pub placed_each : (ss : List Series) (n m : ℕ) (xs : List Account) (a len : ℕ) (y : Account) → len ≡ length xs → m ≡ n + 1
-    → ((k : ℕ) (d : Account) → k < len → sound ss n (get_or xs k d) ≡ true) → sound ss (n + 1) y ≡ true
+-- every account is sound where an order was placed in one of them and added to the day's
+pub placed_each : (ss : List Series) (n m len a q : ℕ) (xs : List Account) (x y z : Account) (o : Order) → len ≡ length xs → m ≡ n + 1
+    → ((k : ℕ) (d : Account) → k < len → sound ss n (get_or xs k d) ≡ true) → x ≡ z → sound ss n x ≡ true → q < length x.orders
+    → order_in z q ≡ None → trade_sound ss z.positions q o.trade ≡ true → y ≡ with_order q (Some o) x
     → (k : ℕ) (d : Account) → k < len → sound ss m (get_or (set xs a y) k d) ≡ true
-placed_each ss n m xs a len y long more old new k d lt =
+placed_each ss n m len a q xs x y z o long more old at here slot none fits is k d lt =
     rw more (each_set (sound ss (n + 1)) xs a y
     (λ j e h. keeps_more ss n (n + 1) (get_or xs j e) (omega arith) (old j e (omega (arith, long)))) new k d (omega (arith, long, length-set xs a y)))
+  where
+    new : sound ss (n + 1) y ≡ true
+    new = rw is (keeps_placed ss n x q o here slot (rw at none) (rw at fits))

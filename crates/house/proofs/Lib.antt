@@ -1,6 +1,6 @@
 pub mod Facts
 pub mod Keeps
-pub mod Grants
+pub mod CashLimits
 pub mod Listed
 pub mod Checks
 pub mod Tests

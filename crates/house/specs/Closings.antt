@@ -29,8 +29,3 @@ Settleable m xs =
 abbrev pub after_closing : {R : Type 0} → (R → Rule) → Result (Unit {0}) Refusal → House R → State
 after_closing meaning (Ok x) h = closed meaning h
 after_closing meaning (Err r) h = trading meaning h
-
--- A closed house has no orders of the day.
-abbrev pub NonePlaced : Result (Unit {0}) Refusal → ℕ → Type 0
-NonePlaced (Ok x) n = n ≡ 0
-NonePlaced (Err r) n = Unit {0}

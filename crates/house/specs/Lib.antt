@@ -4,3 +4,4 @@ pub mod Reply
 pub mod Places
 pub mod Closings
 pub mod States
+pub mod Spending

@@ -1,6 +1,9 @@
 //! Accounts: cash and figures.
-ghost use Rattle.std.specs.Prelude.{◌≡◌, pos, ◌+ℤ◌, ◌-ℤ◌, neg_ℤ, if◌then◌else◌, Some, None, int_le};
-ghost use Rattle.book.specs.House.{max_cash};
+ghost use Rattle.std.specs.Prelude.{◌≡◌, pos, ◌+ℤ◌, if◌then◌else◌, Some, None, vec_len, int_le};
+ghost use Rattle.account.specs.Bounds.{Sound};
+ghost use Rattle.account.specs.View.{the_market};
+ghost use Rattle.book.specs.House.{cash_fits};
+ghost use Rattle.book.specs.Orders.{free};
 ghost use Rattle.book.specs.Call.{Clock, Deposit, Withdrawal, Figures as FiguresCall};
 ghost use Rattle.book.specs.Step.{step};
 ghost use Rattle.book.specs.TradingCalls.{amount_in_range, with_cash};
@@ -9,7 +12,7 @@ ghost use Rattle.house.specs.View.{trading, closed};
 
 use crate::house::House;
 use account::calls::credited;
-use account::settle::MAX_CASH;
+use account::settle::cash_fits;
 use book::account::{Account, Figures, MarginCall};
 use book::refusal::Refusal;
 use rules::rule::MarginRule;
@@ -39,38 +42,19 @@ const MAX_AMOUNT: u64 = 1_000_000_000_000;
 fn amount_in_range(amount: u64) -> bool
     ensures { result ≡ amount_in_range amount }
 {
-    1 <= amount && amount <= MAX_AMOUNT
+    (1..=MAX_AMOUNT).contains(&amount)
 }
 
-/// Cash with an amount added, unless it would pass the most.
-fn cash_with(cash: i64, amount: u64) -> Option<i64>
-    ensures { result ≡ (if int_le (cash +ℤ pos amount) (pos max_cash) then Some (cash +ℤ pos amount) else None) }
+/// Cash with an amount added, or taken from it, unless it would pass its limit.
+fn changed(cash: i64, by: i64) -> Option<i64>
+    ensures { result ≡ (if cash_fits (cash +ℤ by) then Some (cash +ℤ by) else None) }
 {
-    let after = cash as i128 + amount as i128;
-    if after <= MAX_CASH {
+    let after = cash as i128 + by as i128;
+    if cash_fits(after) {
         Some(after as i64)
     } else {
         None
     }
-}
-
-/// Cash with an amount taken off, unless it would pass the least.
-fn cash_without(cash: i64, amount: u64) -> Option<i64>
-    ensures { result ≡ (if int_le (neg_ℤ (pos max_cash)) (cash -ℤ pos amount) then Some (cash -ℤ pos amount) else None) }
-{
-    let after = cash as i128 - amount as i128;
-    if -MAX_CASH <= after {
-        Some(after as i64)
-    } else {
-        None
-    }
-}
-
-/// Whether an amount is at most what is free.
-pub(crate) fn covers(free: i128, amount: u64) -> bool
-    ensures { result ≡ int_le (pos amount) free }
-{
-    amount as i128 <= free
 }
 
 /// An account with other cash and another call.
@@ -79,54 +63,51 @@ fn with_cash(account: &Account, cash: i64, call: Option<MarginCall>) -> Account
 {
     Account {
         cash,
-        positions: account.positions,
-        orders: account.orders,
         call,
+        ..*account
     }
 }
 
 impl<R: MarginRule> House<R> {
     /// Adds to an account's cash, and to the credit of its open call.
+    #[tactic(auto, using(crate::proofs::Keeps::keeps_cash, crate::proofs::CashLimits::added_fits))]
     pub fn deposit(&mut self, account: u64, amount: u64) -> Result<(), Refusal>
         ensures { step (trading R.meaning self.old) (Deposit account amount) ≡ (done result, trading R.meaning self.new) }
     {
-        if !self.has_account(account) {
-            return Err(Refusal::Unknown);
-        }
+        let before = self.entered(account)?;
         if !amount_in_range(amount) {
             return Err(Refusal::OutOfRange);
         }
-        let before = self.account_at(account as usize);
-        let Some(cash) = cash_with(before.cash, amount) else {
-            return Err(Refusal::CashLimit);
-        };
+        let cash = changed(before.cash, amount as i64).ok_or(Refusal::CashLimit)?;
         let after = with_cash(&before, cash, credited(before.call, amount));
         self.put(account as usize, after);
         Ok(())
     }
-}
 
-impl<R: MarginRule> House<R> {
+    /// Whether an amount is free.
+    pub(crate) fn has_free(&self, account: &Account, amount: u64) -> bool
+        requires { Sound (vec_len self.now.market.series) account.now }
+        ensures { result ≡ int_le (pos amount) (free (the_market R.meaning self.now.market) account.now) }
+    {
+        amount as i128 <= self.market.free(account)
+    }
+
     /// Takes from an account's cash, with no call open and no more than is free.
+    #[tactic(auto, using(crate::proofs::Keeps::keeps_cash, crate::proofs::CashLimits::taken_fits))]
     pub fn withdraw(&mut self, account: u64, amount: u64) -> Result<(), Refusal>
         ensures { step (trading R.meaning self.old) (Withdrawal account amount) ≡ (done result, trading R.meaning self.new) }
     {
-        if !self.has_account(account) {
-            return Err(Refusal::Unknown);
-        }
+        let before = self.entered(account)?;
         if !amount_in_range(amount) {
             return Err(Refusal::OutOfRange);
         }
-        let before = self.account_at(account as usize);
         if before.call.is_some() {
             return Err(Refusal::CallOpen);
         }
-        if !covers(self.market.free(&before), amount) {
+        if !self.has_free(&before, amount) {
             return Err(Refusal::ExceedsFree);
         }
-        let Some(cash) = cash_without(before.cash, amount) else {
-            return Err(Refusal::CashLimit);
-        };
+        let cash = changed(before.cash, -(amount as i64)).ok_or(Refusal::CashLimit)?;
         let after = with_cash(&before, cash, before.call);
         self.put(account as usize, after);
         Ok(())
@@ -137,10 +118,7 @@ impl<R: MarginRule> House<R> {
         ensures trading { step (trading R.meaning self.now) (FiguresCall account) ≡ (told result, trading R.meaning self.now) }
         ensures closed { step (closed R.meaning self.now) (FiguresCall account) ≡ (told result, closed R.meaning self.now) }
     {
-        if !self.has_account(account) {
-            return Err(Refusal::Unknown);
-        }
-        let found = self.account_at(account as usize);
+        let found = self.entered(account)?;
         Ok(self.market.figures(&found))
     }
 }

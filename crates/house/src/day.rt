@@ -112,10 +112,8 @@ impl<R: MarginRule> Trading<R> {
         ensures house { Carries self.old.house.number result }
     {
         let house = self.house.number;
-        match self.house.check(account, series, lots, second) {
-            Ok(order) => Ok(Ticket { house, order }),
-            Err(why) => Err(why),
-        }
+        let order = self.house.check(account, series, lots, second)?;
+        Ok(Ticket { house, order })
     }
 
     /// Sends the order of a ticket; a refused ticket comes back.
@@ -123,13 +121,8 @@ impl<R: MarginRule> Trading<R> {
         ensures step { step (the_trading R.meaning self.old) (Send ticket.house ticket.order) ≡ (spent result, the_trading R.meaning self.new) }
         ensures back { Back ticket result }
     {
-        match self.house.send(ticket.house, ticket.order) {
-            Ok(()) => {
-                let Ticket { house: _, order: _ } = ticket;
-                Ok(())
-            }
-            Err(why) => Err((ticket, why)),
-        }
+        let spent = self.house.send(ticket.house, ticket.order);
+        ticket.after(spent)
     }
 
     /// Ends the order of a ticket; a refused ticket comes back.
@@ -137,13 +130,8 @@ impl<R: MarginRule> Trading<R> {
         ensures step { step (the_trading R.meaning self.old) (DropCall ticket.house ticket.order) ≡ (spent result, the_trading R.meaning self.new) }
         ensures back { Back ticket result }
     {
-        match self.house.drop_held(ticket.house, ticket.order) {
-            Ok(()) => {
-                let Ticket { house: _, order: _ } = ticket;
-                Ok(())
-            }
-            Err(why) => Err((ticket, why)),
-        }
+        let spent = self.house.drop_held(ticket.house, ticket.order);
+        ticket.after(spent)
     }
 
     /// Fills a sent order whole.
@@ -172,6 +160,7 @@ impl<R: MarginRule> Trading<R> {
         ensures { step (the_trading R.meaning self) (Closing prices.now) ≡ (closing_answer result, moved R.meaning result) }
     {
         let Trading { mut house } = self;
+        // Not by `?`: a refusal hands the house back.
         match house.closing(prices) {
             Ok(()) => Ok(Closed { house }),
             Err(why) => Err((Trading { house }, why)),
@@ -181,8 +170,9 @@ impl<R: MarginRule> Trading<R> {
 
 /// Takes tickets apart.
 fn void(mut tickets: Vec<Ticket>) {
+    // Not by an iterator: it would have to let go of the tickets that are left.
     while let Some(ticket) = tickets.pop() {
-        let Ticket { house: _, order: _ } = ticket;
+        ticket.end();
     }
     tickets.destroy_empty();
 }

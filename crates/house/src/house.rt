@@ -1,11 +1,15 @@
 //! What a house holds.
-ghost use Rattle.std.specs.Prelude.{◌≡◌, ℕ, ◌<◌, ◌≤◌, true, get_or, vec_len, vec_capacity, slice_index_or};
+ghost use Rattle.std.specs.Prelude.{◌≡◌, ℕ, ◌<◌, ◌≤◌, true, vec_len, vec_capacity, slice_index_or};
 ghost use Rattle.book.specs.declared.account.Account.{Account};
 ghost use Rattle.book.specs.declared.account.Placement.{Placement};
+ghost use Rattle.house.specs.Places.{Within};
 ghost use Rattle.house.specs.Sound.{sound};
 
 use account::market::Market;
 use book::account::{Account, Placement};
+
+/// How many orders are placed in a day.
+pub(crate) const MAX_ORDERS: usize = 9_999;
 
 /// A house, closed or trading.
 #[derive(Drop)]
@@ -22,6 +26,5 @@ pub struct House<R> {
     ghost numbers: { vec_len placed ≤ 9_999 },
     ghost number_room: { 9_999 ≤ vec_capacity placed },
     ghost sound: { (k : ℕ) (d : Account) → k < vec_len accounts → sound market.series.items (vec_len placed) (slice_index_or accounts.items k d) ≡ true },
-    ghost place_account: { (k : ℕ) (d : Placement) → k < vec_len placed → (get_or placed.items k d).account < vec_len accounts },
-    ghost place_product: { (k : ℕ) (d : Placement) → k < vec_len placed → (get_or placed.items k d).product < 8 },
+    ghost within: { (k : ℕ) (d : Placement) → k < vec_len placed → Within (vec_len accounts) (slice_index_or placed.items k d) },
 }

@@ -1,16 +1,17 @@
 //! Products, series, accounts and prices: what is entered, and how a day begins.
-ghost use Rattle.std.specs.Prelude.{◌≡◌, true, ◌&&◌, map, IfOk, if◌then◌else◌, Some, None, vec_len};
+ghost use Rattle.std.specs.Prelude.{◌≡◌, map, IfOk, if◌then◌else◌, Ok, Err, IsTrue, length, vec_len, nat_lt};
 ghost use Rattle.rules.specs.PerLot.{fits};
+ghost use Rattle.book.specs.declared.refusal.Refusal.TheVariants.{OutOfRange};
 ghost use Rattle.book.specs.Answer.{Done};
 ghost use Rattle.book.specs.Call.{Product, Rates, Series as SeriesCall, Account as AccountCall, Opening, Print};
 ghost use Rattle.book.specs.ClosedCalls.{opened_account};
-ghost use Rattle.book.specs.House.{has_product, new_account, set_up};
+ghost use Rattle.book.specs.House.{new_account, set_up};
 ghost use Rattle.book.specs.Prices.{price_in_range, multiplier_in_range, settled};
 ghost use Rattle.book.specs.Step.{step};
 ghost use Rattle.house.specs.Reply.{done, entered};
 ghost use Rattle.house.specs.View.{closed, trading};
 
-use crate::house::House;
+use crate::house::{House, MAX_ORDERS};
 use account::calls::call_at_opening;
 use account::listing::is_price;
 use account::market::Market;
@@ -24,26 +25,31 @@ use std::alloc::{AllocError, Global};
 /// The highest multiplier, in baht per point.
 const MAX_MULTIPLIER: u64 = 10_000;
 
-/// How many orders are placed in a day.
-const MAX_ORDERS: usize = 9_999;
+/// Whether a number is one of those given to what is in a list.
+pub(crate) fn is_entered<T>(list: &[T], number: u64) -> bool
+    ensures { result ≡ nat_lt number (length list.now) }
+{
+    number < list.len() as u64
+}
 
 /// The risk margins of a product, if they are in range.
-fn margins_of(outright: u64, spread: u64) -> Option<RiskMargins>
-    ensures { result ≡ (if fits (record { outright = outright; spread = spread }) then Some (record { outright = outright; spread = spread }) else None) }
+fn margins_of(outright: u64, spread: u64) -> Result<RiskMargins, Refusal>
+    ensures { result ≡ (if fits (record { outright = outright; spread = spread }) then Ok (record { outright = outright; spread = spread }) else Err OutOfRange) }
 {
-    RiskMargins::new(outright, spread).ok()
+    RiskMargins::new(outright, spread).map_err(|_| Refusal::OutOfRange)
 }
 
 /// Whether a multiplier is in range.
 fn is_multiplier(multiplier: u64) -> bool
     ensures { result ≡ multiplier_in_range multiplier }
 {
-    1 <= multiplier && multiplier <= MAX_MULTIPLIER
+    (1..=MAX_MULTIPLIER).contains(&multiplier)
 }
 
 /// A series of a product with its settlement price.
 fn new_series(product: u64, multiplier: u64, price: u64) -> Series
-    requires { (multiplier_in_range multiplier && price_in_range price) ≡ true }
+    requires multiplier { IsTrue (multiplier_in_range multiplier) }
+    requires price { IsTrue (price_in_range price) }
     ensures { result ≡ record { product = product; multiplier = multiplier; quote = settled price } }
 {
     Series {
@@ -57,23 +63,25 @@ fn new_series(product: u64, multiplier: u64, price: u64) -> Series
 }
 
 /// An account with zeros and no call.
+#[tactic(auto, unfolding(book::specs::House::new_account))]
 fn new_account() -> Account
     ensures { result ≡ new_account }
 {
     Account {
         cash: 0,
-        positions: [Position { net: 0, carry: 0 }; 24],
-        orders: [None; 8],
+        positions: [Position { net: 0, carry: 0 }; MAX_SERIES],
+        orders: [None; MAX_PRODUCTS],
         call: None,
     }
 }
 
 /// Accounts at an opening, each open call a day older.
+#[tactic(auto, using(crate::proofs::Tests::mapped_more))]
 fn open_accounts(accounts: &mut [Account])
     ensures { accounts.new ≡ map opened_account accounts.old }
 {
-    for i in 0..accounts.len() {
-        accounts[i].call = call_at_opening(accounts[i].call);
+    for account in accounts.iter_mut() {
+        account.call = call_at_opening(account.call);
     }
 }
 
@@ -97,21 +105,12 @@ impl<R: MarginRule + Drop> House<R> {
 }
 
 impl<R: MarginRule> House<R> {
-    /// Whether a product is entered.
-    fn has_product(&self, product: u64) -> bool
-        ensures { result ≡ has_product (closed R.meaning self.now) product }
-    {
-        product < self.market.products.len() as u64
-    }
-
     /// Enters a product with its risk margins.
     pub(crate) fn product(&mut self, outright: u64, spread: u64) -> Result<u64, Refusal>
         ensures step { step (closed R.meaning self.old) (Product outright spread) ≡ (entered result, closed R.meaning self.new) }
-        ensures kept { vec_len self.new.placed ≡ vec_len self.old.placed }
+        ensures kept { self.new.placed ≡ self.old.placed }
     {
-        let Some(margins) = margins_of(outright, spread) else {
-            return Err(Refusal::OutOfRange);
-        };
+        let margins = margins_of(outright, spread)?;
         let number = self.market.products.len();
         if number >= MAX_PRODUCTS {
             return Err(Refusal::Full);
@@ -123,14 +122,12 @@ impl<R: MarginRule> House<R> {
     /// Replaces both risk margins of a product.
     pub(crate) fn rates(&mut self, product: u64, outright: u64, spread: u64) -> Result<(), Refusal>
         ensures step { step (closed R.meaning self.old) (Rates product outright spread) ≡ (done result, closed R.meaning self.new) }
-        ensures kept { vec_len self.new.placed ≡ vec_len self.old.placed }
+        ensures kept { self.new.placed ≡ self.old.placed }
     {
-        if !self.has_product(product) {
+        if !is_entered(&self.market.products, product) {
             return Err(Refusal::Unknown);
         }
-        let Some(margins) = margins_of(outright, spread) else {
-            return Err(Refusal::OutOfRange);
-        };
+        let margins = margins_of(outright, spread)?;
         self.market.set_product(product as usize, margins);
         Ok(())
     }
@@ -143,9 +140,9 @@ impl<R: MarginRule> House<R> {
         price: u64,
     ) -> Result<u64, Refusal>
         ensures step { step (closed R.meaning self.old) (SeriesCall product multiplier price) ≡ (entered result, closed R.meaning self.new) }
-        ensures kept { vec_len self.new.placed ≡ vec_len self.old.placed }
+        ensures kept { self.new.placed ≡ self.old.placed }
     {
-        if !self.has_product(product) {
+        if !is_entered(&self.market.products, product) {
             return Err(Refusal::Unknown);
         }
         if !(is_multiplier(multiplier) && is_price(price)) {
@@ -163,7 +160,7 @@ impl<R: MarginRule> House<R> {
     /// Enters an account.
     pub(crate) fn account(&mut self) -> Result<u64, Refusal>
         ensures step { step (closed R.meaning self.old) AccountCall ≡ (entered result, closed R.meaning self.new) }
-        ensures kept { vec_len self.new.placed ≡ vec_len self.old.placed }
+        ensures kept { self.new.placed ≡ self.old.placed }
     {
         let number = self.accounts.len();
         if number >= MAX_ACCOUNTS {
@@ -176,18 +173,18 @@ impl<R: MarginRule> House<R> {
     /// Begins a day: minute 0, no prints, and each open call a day older.
     pub(crate) fn opening(&mut self)
         requires { vec_len self.old.placed ≡ 0 }
-        ensures { (Done, trading R.meaning self.new) ≡ step (closed R.meaning self.old) Opening }
+        ensures { step (closed R.meaning self.old) Opening ≡ (Done, trading R.meaning self.new) }
     {
         self.minute = 0;
         self.market.open();
-        open_accounts(self.accounts.as_mut_slice());
+        open_accounts(&mut self.accounts);
     }
 
     /// Sets the last print of a series.
     pub fn print(&mut self, series: u64, price: u64) -> Result<(), Refusal>
         ensures { step (trading R.meaning self.old) (Print series price) ≡ (done result, trading R.meaning self.new) }
     {
-        if series >= self.market.series.len() as u64 {
+        if !is_entered(&self.market.series, series) {
             return Err(Refusal::Unknown);
         }
         if !is_price(price) {

@@ -1,5 +1,5 @@
-//! Orders: checked, sent or dropped, filled or cancelled.
-ghost use Rattle.std.specs.Prelude.{◌≡◌, suc, ◌<◌, ◌≤◌, true, not, ◌&&◌, ◌||◌, length, neg_ℤ, is_some, None, vec_len, unsigned_abs};
+//! Orders: tested, and held under the day's next order number.
+ghost use Rattle.std.specs.Prelude.{◌≡◌, suc, ◌<◌, ◌≤◌, true, ◌&&◌, length, neg_ℤ, is_some, None, vec_len, unsigned_abs};
 ghost use Rattle.account.specs.Bounds.{Sound, TradeFits, Below};
 ghost use Rattle.account.specs.View.{the_market};
 ghost use Rattle.book.specs.Call.{Check};
@@ -7,13 +7,13 @@ ghost use Rattle.book.specs.House.{account_at, has_account, has_series};
 ghost use Rattle.book.specs.Market.{product_of};
 ghost use Rattle.book.specs.Step.{step};
 ghost use Rattle.book.specs.TradingCalls.{lots_in_range, knows_second, second_fits, net_fits, second_net_fits, order_in, with_order, allowed_under_call, affordable};
-ghost use Rattle.house.specs.Places.{held};
+ghost use Rattle.house.specs.Places.{held, Within};
 ghost use Rattle.house.specs.Reply.{ordered};
 ghost use Rattle.house.specs.Sound.{trade_sound};
 ghost use Rattle.house.specs.View.{trading};
 
-use crate::cash::covers;
-use crate::house::House;
+use crate::house::{House, MAX_ORDERS};
+use crate::listing::is_entered;
 use book::account::{Account, Order, Placement, Stage, Trade};
 use book::refusal::Refusal;
 use rules::rule::MarginRule;
@@ -24,18 +24,7 @@ const MAX_LOTS: u64 = 1_000;
 fn lots_in_range(lots: i64) -> bool
     ensures { result ≡ lots_in_range lots }
 {
-    let size = lots.unsigned_abs();
-    1 <= size && size <= MAX_LOTS
-}
-
-/// The place of a second series, if any.
-fn second_of(second: Option<u64>) -> Option<usize>
-    ensures { result ≡ second }
-{
-    match second {
-        None => None,
-        Some(j) => Some(j as usize),
-    }
+    (1..=MAX_LOTS).contains(&lots.unsigned_abs())
 }
 
 /// The terms of an order.
@@ -46,7 +35,7 @@ fn trade_of(series: u64, lots: i64, second: Option<u64>) -> Trade
     Trade {
         series: series as usize,
         lots: lots as i32,
-        second: second_of(second),
+        second: second.map(|j| j as usize),
     }
 }
 
@@ -60,26 +49,19 @@ fn net_fits(account: &Account, series: usize, lots: i32) -> bool
 }
 
 impl<R: MarginRule> House<R> {
-    fn has_series(&self, series: u64) -> bool
-        ensures { result ≡ has_series (trading R.meaning self.now) series }
-    {
-        series < self.market.series.len() as u64
-    }
-
     fn knows_second(&self, second: Option<u64>) -> bool
         ensures { result ≡ knows_second (trading R.meaning self.now) second }
     {
-        match second {
-            None => true,
-            Some(j) => self.has_series(j),
-        }
+        second.is_none_or(|j| is_entered(&self.market.series, j))
     }
 
     /// Whether an account and the series of an order are entered.
     fn knows(&self, account: u64, series: u64, second: Option<u64>) -> bool
         ensures { result ≡ (has_account (trading R.meaning self.now) account && (has_series (trading R.meaning self.now) series && knows_second (trading R.meaning self.now) second)) }
     {
-        self.has_account(account) && self.has_series(series) && self.knows_second(second)
+        is_entered(&self.accounts, account)
+            && is_entered(&self.market.series, series)
+            && self.knows_second(second)
     }
 
     /// The product of a series.
@@ -97,10 +79,10 @@ impl<R: MarginRule> House<R> {
         requires second { Below trade.second (vec_len self.now.market.series) }
         ensures { result ≡ second_fits (the_market R.meaning self.now.market) trade.series trade.second }
     {
-        match trade.second {
-            None => true,
-            Some(j) => { trade.series != j && self.product_of(trade.series) == self.product_of(j) }
-        }
+        let product = self.product_of(trade.series);
+        trade
+            .second
+            .is_none_or(|j| trade.series != j && product == self.product_of(j))
     }
 
     /// Whether an order may be placed under an open call.
@@ -119,7 +101,7 @@ impl<R: MarginRule> House<R> {
         ensures { result ≡ affordable (the_market R.meaning self.now.market) trade account.now }
     {
         let need = self.market.need(account, trade);
-        need == 0 || covers(self.market.free(account), need)
+        need == 0 || self.has_free(account, need)
     }
 }
 
@@ -130,13 +112,10 @@ fn nets_fit(account: &Account, trade: Trade) -> bool
     requires lots { unsigned_abs trade.lots ≤ 1_000 }
     ensures { result ≡ (net_fits account.now trade.series trade.lots && second_net_fits account.now trade.second (neg_ℤ trade.lots)) }
 {
-    if !net_fits(account, trade.series, trade.lots) {
-        return false;
-    }
-    match trade.second {
-        None => true,
-        Some(j) => net_fits(account, j, -trade.lots),
-    }
+    net_fits(account, trade.series, trade.lots)
+        && trade
+            .second
+            .is_none_or(|j| net_fits(account, j, -trade.lots))
 }
 
 /// Whether an account has an open order in a product.
@@ -152,44 +131,33 @@ pub(crate) fn with_order(account: &Account, product: usize, order: Option<Order>
     requires { product < 8 }
     ensures { result ≡ with_order product order account.now }
 {
-    let mut orders = account.orders;
-    orders[product] = order;
-    Account {
-        cash: account.cash,
-        positions: account.positions,
-        orders,
-        call: account.call,
-    }
+    let mut after = *account;
+    after.orders[product] = order;
+    after
 }
 
 impl<R: MarginRule> House<R> {
     /// Holds an order under the day's next order number.
-    fn place(&mut self, account: usize, product: usize, trade: Trade) -> u64
-        requires there { account < vec_len self.old.accounts }
-        requires product { product < 8 }
+    fn hold(&mut self, place: Placement, trade: Trade) -> u64
+        requires there { Within (vec_len self.old.accounts) place }
         requires left { vec_len self.old.placed < 9_999 }
-        requires none { order_in (account_at (trading R.meaning self.old) account) product ≡ None }
-        requires sound { trade_sound self.old.market.series.items (account_at (trading R.meaning self.old) account).positions product trade ≡ true }
+        requires none { order_in (account_at (trading R.meaning self.old) place.account) place.product ≡ None }
+        requires sound { trade_sound self.old.market.series.items (account_at (trading R.meaning self.old) place.account).positions place.product trade ≡ true }
         ensures number { result ≡ suc (length self.old.placed.items) }
-        ensures state { trading R.meaning self.new ≡ held (trading R.meaning self.old) self.old.minute self.old.placed.items account product trade }
+        ensures state { trading R.meaning self.new ≡ held (trading R.meaning self.old) self.old.minute self.old.placed.items place trade }
     {
         let number = self.placed.len() as u32 + 1;
-        let before = self.account_at(account);
+        let before = self.account_at(place.account);
         let order = Order {
             number,
             stage: Stage::Held,
             trade,
         };
-        self.accounts[account] = with_order(&before, product, Some(order));
-        self.placed.push_reserved(Placement { account, product });
+        self.accounts[place.account] = with_order(&before, place.product, Some(order));
+        self.placed.push_reserved(place);
         number as u64
     }
-}
 
-/// How many order numbers a day has.
-const LAST_NUMBER: usize = 9_999;
-
-impl<R: MarginRule> House<R> {
     /// Tests an order, which is then held under the day's next order number.
     pub fn check(
         &mut self,
@@ -214,11 +182,14 @@ impl<R: MarginRule> House<R> {
         if !nets_fit(&before, trade) {
             return Err(Refusal::PositionLimit);
         }
-        let product = self.product_of(trade.series);
-        if has_order(&before, product) {
+        let place = Placement {
+            account: account as usize,
+            product: self.product_of(trade.series),
+        };
+        if has_order(&before, place.product) {
             return Err(Refusal::OrderOpen);
         }
-        if self.placed.len() >= LAST_NUMBER {
+        if self.placed.len() >= MAX_ORDERS {
             return Err(Refusal::OrderNumbersUsed);
         }
         if !self.allowed_under_call(&before, trade) {
@@ -227,6 +198,6 @@ impl<R: MarginRule> House<R> {
         if !self.affordable(&before, trade) {
             return Err(Refusal::ExceedsFree);
         }
-        Ok(self.place(account as usize, product, trade))
+        Ok(self.hold(place, trade))
     }
 }

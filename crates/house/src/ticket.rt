@@ -1,5 +1,8 @@
 //! The ticket of a held order.
 ghost use Rattle.std.specs.Prelude.{◌≡◌};
+ghost use Rattle.house.specs.Spending.{handed_back};
+
+use book::refusal::Refusal;
 
 /// A held order's house number and order number. It cannot be copied or let go: it is handed back to Send or to Drop.
 pub struct Ticket {
@@ -13,5 +16,23 @@ impl Ticket {
         ensures { result ≡ self.now.order }
     {
         self.order
+    }
+
+    /// Takes a spent ticket apart.
+    pub(crate) fn end(self) {
+        let Ticket { house: _, order: _ } = self;
+    }
+
+    /// Takes the ticket apart where its call was granted, and hands it back where it was refused.
+    pub(crate) fn after(self, spent: Result<(), Refusal>) -> Result<(), (Ticket, Refusal)>
+        ensures { result ≡ handed_back self spent }
+    {
+        match spent {
+            Ok(()) => {
+                self.end();
+                Ok(())
+            }
+            Err(why) => Err((self, why)),
+        }
     }
 }

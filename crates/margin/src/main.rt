@@ -1,13 +1,9 @@
 //! Runs a script of calls on a house, and prints one answer a line.
 #![tactic(auto)]
 
-use desk::reply::Reply;
 use desk::session::Session;
-use script::answer::{
-    put_figures, put_not_now, put_ok, put_ok_number, put_refused, put_unreadable,
-};
-use script::line::{Reading, read};
-use std::alloc::AllocError;
+use script::answer::{Fault, Reply, put_reply};
+use script::line::{ReadError, read};
 use std::fs::File;
 use std::io::{BufRead, BufReader, BufWriter, Read, Write};
 use std::process::ExitCode;
@@ -51,118 +47,65 @@ A day:
 a line that is no call. '#' begins a comment.
 ";
 
-/// Adds the line of a reply.
-fn put_reply(out: &mut Vec<u8>, reply: Reply) -> Result<(), AllocError> {
-    match reply {
-        Reply::Done => put_ok(out),
-        Reply::Entered(number) => put_ok_number(out, number),
-        Reply::Ordered(number) => put_ok_number(out, number),
-        Reply::Told(figures) => put_figures(out, figures),
-        Reply::Refused(why) => put_refused(out, why),
-        Reply::NotNow => put_not_now(out),
-        Reply::Unreadable => put_unreadable(out),
-    }
-}
-
-/// The buffers of a run, used again for each line.
-#[derive(Drop)]
-struct Buffers {
-    line: Vec<u8>,
-    prices: Vec<u64>,
-    answer: Vec<u8>,
-}
-
-/// Reads a line into its buffer; false at the end of the script.
-fn next_line<B: Read>(input: &mut BufReader<B>, buffers: &mut Buffers) -> io::Result<bool> {
-    buffers.line.clear();
-    buffers.answer.clear();
-    Ok(input.read_until(b'\n', &mut buffers.line)? > 0)
-}
-
-/// The session after the line in the buffers, whose answer they then hold.
+/// What a line is replied; an empty one is not replied to.
 fn take_line(
     rt: &HostRuntime,
-    session: Session,
-    buffers: &mut Buffers,
-) -> (Session, Result<(), AllocError>) {
-    match read(buffers.line.as_slice(), &mut buffers.prices) {
-        Err(e) => (session, Err(e)),
-        Ok(Reading::Empty) => (session, Ok(())),
-        Ok(Reading::Unreadable) => (session, put_unreadable(&mut buffers.answer)),
-        Ok(Reading::Command(command)) => {
-            let (after, reply) = session.next(rt.alloc(), command, buffers.prices.as_slice());
-            match reply {
-                Ok(reply) => (after, put_reply(&mut buffers.answer, reply)),
-                Err(e) => (after, Err(e)),
-            }
-        }
+    session: &mut Session,
+    line: &[u8],
+    prices: &mut Vec<u64>,
+) -> io::Result<Option<Reply>> {
+    match read(line, prices) {
+        Ok(None) => Ok(None),
+        Ok(Some(command)) => Ok(Some(session.next(rt.alloc(), command)?)),
+        Err(ReadError::Unreadable) => Ok(Some(Err(Fault::Unreadable))),
+        Err(ReadError::OutOfMemory) => Err(io::ErrorKind::OutOfMemory.into()),
     }
 }
 
-/// Runs the script, line by line, and answers whether all went well.
-fn run_lines<B: Read>(
+/// Runs the script, line by line.
+fn run_lines<B: Read, W: Write>(
     rt: &HostRuntime,
     input: &mut BufReader<B>,
-    mut buffers: Buffers,
+    output: &mut W,
+    session: &mut Session,
 ) -> io::Result<()> {
-    let mut output = BufWriter::new(rt.alloc(), rt.stdout())?;
-    let mut session = Session::Waiting;
-    let mut outcome = Ok(());
+    let mut line = Vec::new(rt.alloc());
+    let mut prices = Vec::new(rt.alloc());
+    let mut answer = String::new(rt.alloc());
+    // A count, since a loop over what comes in has to be seen to end.
     for _ in 0..u64::MAX {
-        match next_line(input, &mut buffers) {
-            Ok(true) => {}
-            Ok(false) => break,
-            Err(e) => {
-                outcome = Err(e);
-                break;
-            }
-        }
-        let (after, taken) = take_line(rt, session, &mut buffers);
-        session = after;
-        if let Err(e) = answer(&mut output, taken, &buffers) {
-            outcome = Err(e);
+        line.clear();
+        if input.read_until(b'\n', &mut line)? == 0 {
             break;
         }
+        if let Some(reply) = take_line(rt, session, line.as_slice(), &mut prices)? {
+            answer.clear();
+            put_reply(&mut answer, reply)?;
+            output.write_all(answer.as_bytes())?;
+        }
     }
+    Ok(())
+}
+
+/// Runs the script, and shuts its house down.
+fn run<B: Read + Drop>(rt: &HostRuntime, source: B) -> io::Result<()> {
+    let mut input = BufReader::new(rt.alloc(), source)?;
+    let mut output = BufWriter::new(rt.alloc(), rt.stdout())?;
+    let mut session = Session::Waiting;
+    let outcome = run_lines(rt, &mut input, &mut output, &mut session);
     session.end();
     output.flush()?;
     outcome
 }
 
-/// Writes the answer of a line.
-fn answer<W: Write>(
-    output: &mut W,
-    taken: Result<(), AllocError>,
-    buffers: &Buffers,
-) -> io::Result<()> {
-    taken?;
-    output.write_all(buffers.answer.as_slice())
-}
-
-fn run<B: Read + Drop>(rt: &HostRuntime, source: B) -> io::Result<()> {
-    let mut input = BufReader::new(rt.alloc(), source)?;
-    let heap = rt.alloc();
-    let buffers = Buffers {
-        line: Vec::new(heap),
-        prices: Vec::new(heap),
-        answer: Vec::new(heap),
-    };
-    run_lines(rt, &mut input, buffers)
-}
-
 fn start(rt: &HostRuntime) -> io::Result<()> {
-    let mut words = env::args(rt)?;
-    let _program = words.next();
-    match words.next() {
-        None => run(rt, rt.stdin()),
-        Some(word) => {
-            if word.as_str() == "--help" {
-                return rt.stdout().write_all(HELP.as_bytes());
-            }
-            let file = File::open(rt, word.as_str())?;
-            run(rt, file)
-        }
+    let Some(word) = env::args(rt)?.nth(1) else {
+        return run(rt, rt.stdin());
+    };
+    if word.as_str() == "--help" {
+        return rt.stdout().write_all(HELP.as_bytes());
     }
+    run(rt, File::open(rt, word.as_str())?)
 }
 
 fn main(rt: HostRuntime) -> ExitCode {

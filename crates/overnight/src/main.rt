@@ -1,15 +1,39 @@
 //! Two days of an account with two lots. Closing takes the trading house away, so that no price can be printed on it overnight.
 #![tactic(auto)]
 
-ghost use Rattle.std.specs.Prelude.{◌≡◌, ◌<◌, vec_len, vec_capacity};
-
 use book::account::Figures;
 use book::refusal::Refusal;
 use house::states::{Closed, Trading};
-use house::ticket::Ticket;
 use rules::rule::Pairs;
+use std::alloc::{AllocError, Global};
 use std::io;
 
+/// Why the days end early.
+#[derive(Drop)]
+enum Stop {
+    Refused(Refusal),
+    Failed(io::Error),
+}
+
+impl From<Refusal> for Stop {
+    fn from(refusal: Refusal) -> Stop {
+        Stop::Refused(refusal)
+    }
+}
+
+impl From<io::Error> for Stop {
+    fn from(e: io::Error) -> Stop {
+        Stop::Failed(e)
+    }
+}
+
+impl From<AllocError> for Stop {
+    fn from(e: AllocError) -> Stop {
+        Stop::Failed(e.into())
+    }
+}
+
+// Not shared with `ticket`: each of the two programs is read, and changed into one that must be rejected, alone.
 /// Enters SET50 with a series and an account, and begins a day with 20,000 baht in it.
 fn opened(mut house: Closed<Pairs>) -> Result<Trading<Pairs>, Refusal> {
     let product = house.product(450_000, 112_500)?;
@@ -20,40 +44,25 @@ fn opened(mut house: Closed<Pairs>) -> Result<Trading<Pairs>, Refusal> {
     Ok(trading)
 }
 
-/// Sends the order of a ticket and fills it at 83,000. Where the ticket comes back, the house is shut down with it.
-fn filled(
-    mut house: Trading<Pairs>,
-    ticket: Ticket,
-    mut room: Vec<Ticket>,
-) -> Result<Trading<Pairs>, Refusal>
-    requires { (vec_len room ≡ 0) × (0 < vec_capacity room) }
-{
-    let order = ticket.order();
-    match house.send(ticket) {
-        Ok(()) => {
-            room.destroy_empty();
-            house.fill(order, 83_000, None)?;
-            Ok(house)
-        }
-        Err((back, why)) => {
-            room.push_reserved(back);
-            house.shut_down(room);
-            Err(why)
-        }
-    }
-}
-
-/// Buys two lots of series 0 for account 0.
-fn bought(mut house: Trading<Pairs>, room: Vec<Ticket>) -> Result<Trading<Pairs>, Refusal>
-    requires { (vec_len room ≡ 0) × (0 < vec_capacity room) }
-{
-    match house.check(0, 0, 2, None) {
-        Ok(ticket) => filled(house, ticket, room),
+/// Buys two lots of series 0 for account 0 and fills them at 83,000. Where the ticket comes back, the house is shut down with it.
+fn bought(mut house: Trading<Pairs>, heap: Global) -> Result<Trading<Pairs>, Stop> {
+    let mut kept = Vec::with_capacity(heap, 1)?;
+    let ticket = match house.check(0, 0, 2, None) {
+        Ok(ticket) => ticket,
         Err(why) => {
-            room.destroy_empty();
-            Err(why)
+            kept.destroy_empty();
+            return Err(Stop::Refused(why));
         }
+    };
+    let order = ticket.order();
+    if let Err((back, why)) = house.send(ticket) {
+        kept.push_reserved(back);
+        house.shut_down(kept);
+        return Err(Stop::Refused(why));
     }
+    kept.destroy_empty();
+    house.fill(order, 83_000, None)?;
+    Ok(house)
 }
 
 /// Shows the equity after a step of the day.
@@ -73,24 +82,21 @@ fn print(rt: &HostRuntime, house: &mut Trading<Pairs>, price: u64) -> io::Result
 }
 
 /// A day, a night and a day.
-fn two_days(rt: &HostRuntime, mut monday: Trading<Pairs>) -> io::Result<()> {
+fn two_days(rt: &HostRuntime) -> Result<(), Stop> {
+    let house = opened(Closed::new(rt.alloc(), 1, Pairs)?)?;
+    let mut monday = bought(house, rt.alloc())?;
     show(rt, "bought", monday.figures(0))?;
     print(rt, &mut monday, 83_500)?;
-    match monday.closing(&[83_200]) {
-        Ok(closed) => {
-            show(rt, "closed", closed.figures(0))?;
-            print(rt, &mut closed.opening(), 82_900)
-        }
-        Err((_, why)) => println!(rt; "refused: {why:?}"),
-    }
+    let closed = monday.closing(&[83_200]).map_err(|(_, why)| why)?;
+    show(rt, "closed", closed.figures(0))?;
+    print(rt, &mut closed.opening(), 82_900)?;
+    Ok(())
 }
 
 fn main(rt: HostRuntime) -> io::Result<()> {
-    match opened(Closed::new(rt.alloc(), 1, Pairs)?) {
-        Ok(house) => match bought(house, Vec::with_capacity(rt.alloc(), 1)?) {
-            Ok(monday) => two_days(&rt, monday),
-            Err(why) => println!(rt; "refused: {why:?}"),
-        },
-        Err(why) => println!(rt; "refused: {why:?}"),
+    match two_days(&rt) {
+        Ok(()) => Ok(()),
+        Err(Stop::Refused(why)) => println!(rt; "refused: {why:?}"),
+        Err(Stop::Failed(e)) => Err(e),
     }
 }

@@ -3,7 +3,7 @@
 //! A line has the kind, the risk margin in satang, the initial, maintenance and force levels in baht, and a name.
 #![tactic(auto)]
 
-ghost use Rattle.std.specs.Prelude.{◌≡◌, Decides};
+ghost use Rattle.std.specs.Prelude.{◌≡◌, ◌↔◌, [], ◌∷◌, map, IsTrue, IsUtf8, codes};
 ghost use Rattle.sheet.specs.Amount.{baht, right_aligned};
 ghost use Rattle.sheet.specs.Word.{trimmed};
 ghost use Rattle.published.specs.Rate.{levels_said};
@@ -16,37 +16,98 @@ use std::io::{BufRead, BufReader};
 use std::process::ExitCode;
 use std::{fmt, io};
 
-#[derive(Clone, Copy)]
+#[derive(Clone, Copy, PartialEq, Eq, Debug)]
 enum Kind {
     Outright,
     Spread,
 }
 
-/// The three levels as text.
-#[derive(Clone, Copy)]
-struct Figures<'a> {
+/// What a line of the table says. The three levels are published as text.
+#[derive(Clone, Copy, PartialEq, Eq, Debug)]
+struct Rate<'a> {
+    kind: Kind,
+    levels: Levels,
     initial: &'a [u8],
     maintenance: &'a [u8],
     force: &'a [u8],
 }
 
-#[derive(Clone, Copy)]
-struct Rate<'a> {
-    kind: Kind,
-    levels: Levels,
-    published: Figures<'a>,
+/// A level of one lot in satang, and the text that is published for it.
+#[derive(Clone, Copy, PartialEq, Eq, Debug)]
+struct Figure<'a> {
+    level: &'static str,
+    computed: u32,
+    published: &'a [u8],
 }
 
-/// What a line of the table comes to.
-#[derive(Clone, Copy)]
-enum Verdict<'a> {
-    Comment,
+/// Why a line of the table does not agree.
+#[derive(Clone, Copy, PartialEq, Eq, Debug)]
+enum Fault<'a> {
     NoRate,
-    Agrees(Kind),
-    Differs(Levels, Figures<'a>),
+    Differs(Rate<'a>),
 }
 
-fn kind_of(word: &[u8]) -> Option<Kind> {
+impl<'a> Rate<'a> {
+    /// The three levels, and what is published for each.
+    fn figures(&self) -> [Figure<'a>; 3]
+        ensures computed { map (λ f. f.computed) result ≡
+            self.now.levels.initial ∷ self.now.levels.maintenance ∷ self.now.levels.force ∷ [] }
+        ensures published { map (λ f. f.published.now) result ≡
+            self.now.initial.now ∷ self.now.maintenance.now ∷ self.now.force.now ∷ [] }
+    {
+        [
+            Figure {
+                level: "initial",
+                computed: self.levels.initial,
+                published: self.initial,
+            },
+            Figure {
+                level: "maintenance",
+                computed: self.levels.maintenance,
+                published: self.maintenance,
+            },
+            Figure {
+                level: "force",
+                computed: self.levels.force,
+                published: self.force,
+            },
+        ]
+    }
+}
+
+impl Figure<'_> {
+    /// Whether the published text is the level in baht.
+    fn agrees(&self) -> bool
+        ensures { IsTrue result ↔
+            (trimmed (right_aligned 13 (baht self.now.computed)) ≡ self.now.published.now) }
+    {
+        trimmed(&amount(self.computed)) == self.published
+    }
+}
+
+impl fmt::Display for Figure<'_> {
+    fn fmt<W: fmt::Write>(&self, f: &mut fmt::Formatter<W>) -> fmt::Result {
+        write!(
+            f,
+            "{} level {}, published {}",
+            self.level,
+            shown(trimmed(&amount(self.computed))),
+            shown(self.published),
+        )
+    }
+}
+
+/// Bytes as text, if they are text.
+fn shown(bytes: &[u8]) -> &str
+    ensures { IsUtf8 bytes.now → result.now ≡ bytes.now }
+{
+    str::from_utf8(bytes).unwrap_or("?")
+}
+
+fn kind_of(word: &[u8]) -> Option<Kind>
+    ensures outright { (result ≡ Some Kind.Outright) ↔ (word.now ≡ codes "outright") }
+    ensures spread { (result ≡ Some Kind.Spread) ↔ (word.now ≡ codes "spread") }
+{
     match word {
         b"outright" => Some(Kind::Outright),
         b"spread" => Some(Kind::Spread),
@@ -58,10 +119,7 @@ fn kind_of(word: &[u8]) -> Option<Kind> {
 fn levels_of(word: &[u8]) -> Option<Levels>
     ensures { result ≡ levels_said word.now }
 {
-    match decimal(word) {
-        Ok(risk) => per_lot(risk).ok(),
-        Err(_) => None,
-    }
+    per_lot(decimal(word).ok()?).ok()
 }
 
 fn rate_of(text: &[u8]) -> Option<Rate<'_>> {
@@ -75,94 +133,56 @@ fn rate_of(text: &[u8]) -> Option<Rate<'_>> {
     if name.is_empty() {
         return None;
     }
-    let published = Figures {
-        initial,
-        maintenance,
-        force,
-    };
     Some(Rate {
         kind,
         levels,
-        published,
+        initial,
+        maintenance,
+        force,
     })
 }
 
-/// Whether a figure is the level in baht.
-fn agrees(level: u32, figure: &[u8]) -> bool
-    ensures { Decides result (trimmed (right_aligned 13 (baht level)) ≡ figure.now) }
-{
-    trimmed(&amount(level)) == figure
-}
-
-fn judge(line: &[u8]) -> Verdict<'_> {
-    let text = trimmed(line);
-    if text.is_empty() || text[0] == b'#' {
-        return Verdict::Comment;
-    }
-    let Some(rate) = rate_of(text) else {
-        return Verdict::NoRate;
+/// The kind of the rate of a line, or nothing where the line is blank or a comment.
+fn judge(line: &[u8]) -> Result<Option<Kind>, Fault<'_>> {
+    let text = match trimmed(line) {
+        [] | [b'#', ..] => return Ok(None),
+        text => text,
     };
-    let (levels, figures) = (rate.levels, rate.published);
-    let same = agrees(levels.initial, figures.initial)
-        && agrees(levels.maintenance, figures.maintenance)
-        && agrees(levels.force, figures.force);
-    if same {
-        Verdict::Agrees(rate.kind)
+    let rate = rate_of(text).ok_or(Fault::NoRate)?;
+    if rate.figures().iter().all(Figure::agrees) {
+        Ok(Some(rate.kind))
     } else {
-        Verdict::Differs(levels, figures)
+        Err(Fault::Differs(rate))
     }
 }
 
-/// Bytes that are shown as text, if they are text.
-#[derive(Clone, Copy)]
-struct Shown<'a>(&'a [u8]);
-
-impl fmt::Display for Shown<'_> {
-    fn fmt<W: fmt::Write>(&self, f: &mut fmt::Formatter<W>) -> fmt::Result {
-        f.write_str(std::str::from_utf8(self.0).unwrap_or("?"))
+/// Says on standard error what is wrong with a line.
+fn report(rt: &HostRuntime, number: u64, fault: Fault<'_>) {
+    match fault {
+        Fault::NoRate => {
+            let _ = eprintln!(rt; "line {number}: no rate");
+        }
+        Fault::Differs(rate) => {
+            for figure in rate.figures().iter().filter(|figure| !figure.agrees()) {
+                let _ = eprintln!(rt; "line {number}: {figure}");
+            }
+        }
     }
-}
-
-/// Says on standard error that a level differs from its figure, if it does.
-fn report(rt: &HostRuntime, number: u64, level: &str, computed: u32, figure: &[u8]) {
-    if agrees(computed, figure) {
-        return;
-    }
-    let computed = amount(computed);
-    let computed = Shown(trimmed(&computed));
-    let published = Shown(figure);
-    let _ = eprintln!(rt; "line {number}: {level} level {computed}, published {published}");
 }
 
 fn check_table(rt: &HostRuntime) -> io::Result<bool> {
-    let mut input = BufReader::new(rt.alloc(), rt.stdin())?;
-    let mut line = Vec::new(rt.alloc());
+    let input = BufReader::new(rt.alloc(), rt.stdin())?;
     let (mut outright, mut spread) = (0u64, 0u64);
     let mut all_agree = true;
-    for number in 1..u64::MAX {
-        line.clear();
-        if input.read_until(b'\n', &mut line)? == 0 {
-            break;
-        }
-        match judge(line.as_slice()) {
-            Verdict::Comment => {}
-            Verdict::Agrees(Kind::Outright) => outright = outright.saturating_add(1),
-            Verdict::Agrees(Kind::Spread) => spread = spread.saturating_add(1),
-            Verdict::NoRate => {
+    for (number, line) in (1u64..).zip(input.split(rt.alloc(), b'\n')) {
+        let line = line?;
+        match judge(&line) {
+            Ok(None) => {}
+            Ok(Some(Kind::Outright)) => outright = outright.saturating_add(1),
+            Ok(Some(Kind::Spread)) => spread = spread.saturating_add(1),
+            Err(fault) => {
                 all_agree = false;
-                let _ = eprintln!(rt; "line {number}: no rate");
-            }
-            Verdict::Differs(levels, figures) => {
-                all_agree = false;
-                report(rt, number, "initial", levels.initial, figures.initial);
-                report(
-                    rt,
-                    number,
-                    "maintenance",
-                    levels.maintenance,
-                    figures.maintenance,
-                );
-                report(rt, number, "force", levels.force, figures.force);
+                report(rt, number, fault);
             }
         }
     }

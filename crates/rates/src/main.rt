@@ -15,17 +15,18 @@ fn print_sheet(rt: &HostRuntime) -> io::Result<bool> {
     let mut text = Vec::new(rt.alloc());
     let mut all_read = true;
     output.write_all(HEADER.as_bytes())?;
+    // Not by `split`, which takes memory for each line: a sheet of any length is read into one buffer.
     for number in 1..u64::MAX {
         line.clear();
         if input.read_until(b'\n', &mut line)? == 0 {
             break;
         }
-        match read_row(line.as_slice()) {
+        match read_row(&line) {
             Ok(None) => {}
             Ok(Some(row)) => {
                 text.clear();
                 put_row(&mut text, row)?;
-                output.write_all(text.as_slice())?;
+                output.write_all(&text)?;
             }
             Err(fault) => {
                 all_read = false;

@@ -1,5 +1,3 @@
-pub mod Signs
 pub mod Splits
 pub mod Lists
-pub mod Glyphs
-pub mod Runs
+pub mod Texts

@@ -1,10 +1,14 @@
 -- The line that each answer prints.
-use Rattle.std.specs.Prelude.{ℕ, cond, List, ◌∷◌, ◌++◌, ℤ, Some, None, codes, decimal, Option}
+use Rattle.std.specs.Prelude.{ℕ, List, ◌∷◌, ◌++◌, ℤ, Some, None, codes, decimal, Option, Result, Ok, Err, if◌then◌else◌}
 use Rattle.std.specs.Fmt.{signed_decimal}
 use Rattle.book.specs.declared.refusal.Refusal.{Refusal}
 use Rattle.book.specs.declared.account.Figures.{Figures}
 use Rattle.book.specs.declared.account.MarginCall.{MarginCall}
 use Rattle.book.specs.Refusals.{number_of}
+use Rattle.script.specs.declared.answer.Answer.{Answer}
+use Rattle.script.specs.declared.answer.Answer.TheVariants.{Done, Entered, Ordered, Told}
+use Rattle.script.specs.declared.answer.Fault.{Fault}
+use Rattle.script.specs.declared.answer.Fault.TheVariants.{Refused, NotNow, Unreadable}
 
 -- A number after a blank.
 abbrev pub field : ℕ → List ℕ
@@ -34,7 +38,7 @@ requirement_fields f = field f.initial ++ (field f.maintenance ++ field f.force)
 
 -- The amount, the credit, the age and the mark of a margin call.
 abbrev pub call_fields : MarginCall → List ℕ
-call_fields m = field m.amount ++ (field m.credit ++ (field m.age ++ cond m.low (codes " low") (codes " high")))
+call_fields m = field m.amount ++ (field m.credit ++ (field m.age ++ (if m.low then codes " low" else codes " high")))
 
 abbrev pub any_call_fields : Option MarginCall → List ℕ
 any_call_fields None = codes " -"
@@ -46,3 +50,25 @@ figures_fields f =
 
 abbrev pub figures_line : Figures → List ℕ
 figures_line f = codes "ok" ++ (figures_fields f ++ codes "\n")
+
+-- The line of a reply.
+abbrev pub reply_line : Result Answer Fault → List ℕ
+reply_line (Ok Done) = ok_line
+reply_line (Ok (Entered n)) = ok_number_line n
+reply_line (Ok (Ordered n)) = ok_number_line n
+reply_line (Ok (Told f)) = figures_line f
+reply_line (Err (Refused r)) = refused_line r
+reply_line (Err NotNow) = not_now_line
+reply_line (Err Unreadable) = unreadable_line
+
+-- An answer and a fault as they are printed, with no line break.
+abbrev pub answer_text : Answer → List ℕ
+answer_text Done = codes "ok"
+answer_text (Entered n) = codes "ok" ++ field n
+answer_text (Ordered n) = codes "ok" ++ field n
+answer_text (Told f) = codes "ok" ++ figures_fields f
+
+abbrev pub fault_text : Fault → List ℕ
+fault_text (Refused r) = codes "refused" ++ field (number_of r)
+fault_text NotNow = codes "not now"
+fault_text Unreadable = codes "unreadable"

@@ -6,21 +6,21 @@ use Rattle.book.specs.declared.refusal.Refusal.TheVariants as refusal
 use Rattle.book.specs.declared.account.Figures.{Figures}
 use Rattle.script.specs.declared.command.Command.{Command}
 use Rattle.script.specs.declared.command.Command.TheVariants as call
-use Rattle.script.specs.declared.line.Reading.TheVariants as reading
+use Rattle.script.specs.Line as reading
 use Rattle.script.specs.Answers.{ok_number_line, refused_line, figures_line}
 use Rattle.script.specs.Line.{of_line}
 
 abbrev pub Says : String → Command → Type 0
-Says text c = of_line (codes text) ≡ (reading.Command c, [])
+Says text c = of_line (codes text) ≡ reading.Call c
 
 abbrev pub Closes : String → List ℕ → Type 0
-Closes text prices = of_line (codes text) ≡ (reading.Command call.Closing, prices)
+Closes text prices = of_line (codes text) ≡ reading.Closing prices
 
 abbrev pub Unreadable : String → Type 0
-Unreadable text = of_line (codes text) ≡ (reading.Unreadable, [])
+Unreadable text = of_line (codes text) ≡ reading.Unreadable
 
 abbrev pub Empty : String → Type 0
-Empty text = of_line (codes text) ≡ (reading.Empty, [])
+Empty text = of_line (codes text) ≡ reading.Empty
 
 pub record WorkedCalls : Type 0 where
   pub house : Says "house 4294967295 pairs" (call.House 4_294_967_295 rule.Pairs)

@@ -3,7 +3,6 @@
 
 pub mod answer;
 pub mod command;
-mod digits;
 mod fields;
 pub mod line;
 mod number;

@@ -1,74 +1,59 @@
 //! What a line of a script says.
-ghost use Rattle.std.specs.Prelude.{◌≡◌, IfOk};
+ghost use Rattle.std.specs.Prelude.{◌≡◌, IfOk, IsErrOf, Some, None};
 ghost use Rattle.script.specs.Words.{words};
-ghost use Rattle.script.specs.Line.{numbers, listed, closing, of_words, of_line};
+ghost use Rattle.script.specs.Line.{numbers, of_line, IsResultOf};
+ghost use Rattle.script.specs.declared.line.ReadError.TheVariants.{OutOfMemory};
 
-use crate::command::{Command, call_of, is};
-use crate::fields::before_comment;
+use crate::command::{Command, call_of};
+use crate::fields::{before_comment, first_word};
 use crate::number::number;
-use sheet::word::{split_word, trimmed};
-use std::alloc::AllocError;
+use sheet::word::trimmed;
+use std::alloc::AllocFailed;
+use std::str;
 
-/// What a line says.
-#[derive(Clone, Copy)]
-pub enum Reading {
-    /// It has no word.
-    Empty,
-    /// It names no call, or the words after the name are not those of its call.
+/// Why a line gives no command.
+#[derive(Clone, Copy, PartialEq, Eq, Debug)]
+pub enum ReadError {
+    /// The line names no call, or the words after the name are not those of its call.
     Unreadable,
-    Command(Command),
+    OutOfMemory,
 }
 
-/// Whether all words are numbers. If so, they are what the list then holds.
-fn read_numbers(text: &[u8], prices: &mut Vec<u64>) -> Result<bool, AllocError>
-    ensures { IfOk result (λ all. listed all prices.new.items ≡ numbers (words text.now)) }
+impl<T: Drop> From<AllocFailed<T>> for ReadError {
+    ghost from_gives = { λ _ e. e ≡ OutOfMemory };
+
+    fn from(_e: AllocFailed<T>) -> ReadError {
+        ReadError::OutOfMemory
+    }
+}
+
+/// The numbers of all words of a text, which the list then holds.
+fn all_numbers<'p>(text: &[u8], list: &'p mut Vec<u64>) -> Result<&'p [u64], ReadError>
+    ensures ok { IfOk result (λ ns. numbers (words text.now) ≡ Some ns.now) }
+    ensures unreadable { IsErrOf result ReadError.Unreadable → numbers (words text.now) ≡ None }
 {
-    prices.clear();
+    list.clear();
     let mut rest = text;
-    while !rest.is_empty() {
-        let (word, after) = split_word(rest);
-        let Some(price) = number(word) else {
-            return Ok(false);
-        };
-        prices.push(price)?;
+    // Word by word: an iterator of words would be a type of its own for this one loop.
+    while let Some((word, after)) = first_word(rest) {
+        list.push(number(word).ok_or(ReadError::Unreadable)?)?;
         rest = after;
     }
-    Ok(true)
+    Ok(list.as_slice())
 }
 
-/// The closing of a day at the prices that the words say.
-fn closing(text: &[u8], prices: &mut Vec<u64>) -> Result<Reading, AllocError>
-    ensures { IfOk result (λ x. (x, prices.new.items) ≡ closing (words text.now)) }
+/// The command of a line, or none where the line has no word. The prices of a closing are kept in the list.
+pub fn read<'p>(line: &[u8], prices: &'p mut Vec<u64>) -> Result<Option<Command<'p>>, ReadError>
+    ensures { ¬ IsErrOf result ReadError.OutOfMemory → IsResultOf (of_line line.now) result }
 {
-    if read_numbers(text, prices)? {
-        Ok(Reading::Command(Command::Closing))
-    } else {
-        prices.clear();
-        Ok(Reading::Unreadable)
+    let Some((name, rest)) = first_word(trimmed(before_comment(line))) else {
+        return Ok(None);
+    };
+    let name = str::from_utf8(name).map_err(|_| ReadError::Unreadable)?;
+    if name == "closing" {
+        let prices = all_numbers(rest, prices)?;
+        return Ok(Some(Command::Closing { prices }));
     }
-}
-
-/// What the words of a text say.
-fn of_text(text: &[u8], prices: &mut Vec<u64>) -> Result<Reading, AllocError>
-    ensures { IfOk result (λ x. (x, prices.new.items) ≡ of_words (words text.now)) }
-{
-    prices.clear();
-    if text.is_empty() {
-        return Ok(Reading::Empty);
-    }
-    let (name, rest) = split_word(text);
-    if is(name, b"closing") {
-        return closing(rest, prices);
-    }
-    match call_of(name, rest) {
-        Some(command) => Ok(Reading::Command(command)),
-        None => Ok(Reading::Unreadable),
-    }
-}
-
-/// What a line says. The list then holds the prices of a closing, and is empty after any other line.
-pub fn read(line: &[u8], prices: &mut Vec<u64>) -> Result<Reading, AllocError>
-    ensures { IfOk result (λ x. (x, prices.new.items) ≡ of_line line.now) }
-{
-    of_text(trimmed(before_comment(line)), prices)
+    let command = call_of(name, rest).ok_or(ReadError::Unreadable)?;
+    Ok(Some(command))
 }

@@ -1,6 +1,4 @@
 pub mod Numerals
 pub mod Amounts
 pub mod Widths
-pub mod Blanks
 pub mod Lines
-pub mod Appends

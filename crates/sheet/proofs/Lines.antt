@@ -23,3 +23,5 @@ of_name_text outright spread (b ∷ bs) more u = cond-true _ _ _ (is_text_from_u
 pub of_name_no_text : (outright spread : ℕ) (bs : List ℕ) → 0 < length bs → (IsUtf8 bs → ⊥) → of_name outright spread bs ≡ Err NotText
 of_name_no_text outright spread [] more u = absurd (omega arith)
 of_name_no_text outright spread (b ∷ bs) more u = cond-false _ _ _ (is_no_text (b ∷ bs) u)
+
+pub ruleset names = (of_name_text, of_name_no_text)

@@ -1,5 +1,5 @@
 -- Whole numbers in decimal digits.
-use Rattle.std.specs.Prelude.{ℕ, ◌+◌, ◌-◌, ◌*◌, ◌^◌, Bool, true, cond, ◌&&◌, List, [], ◌∷◌, length, Ok, Err, Result, nat_lt}
+use Rattle.std.specs.Prelude.{codes, ℕ, ◌+◌, ◌-◌, ◌*◌, ◌^◌, Bool, true, cond, ◌&&◌, List, [], ◌∷◌, length, Ok, Err, Result, nat_lt}
 use Rattle.std.specs.Char.{is_ascii_digit}
 use Rattle.sheet.specs.declared.number.NumberFault.{NumberFault}
 use Rattle.sheet.specs.declared.number.NumberFault.TheVariants.{NotDigits, TooLarge}
@@ -19,3 +19,8 @@ decimal bs =
     cond (nat_lt 0 (length bs) && all_digits bs)
     (cond (nat_lt (value_after 0 bs) (2 ^ 64)) (Ok (value_after 0 bs)) (Err TooLarge))
     (Err NotDigits)
+
+-- What is said of a text that is no number.
+abbrev pub number_fault_text : NumberFault → List ℕ
+number_fault_text NotDigits = codes "not a number"
+number_fault_text TooLarge = codes "too large to read"

@@ -1,4 +1,4 @@
-//! The columns of the printed sheet.
+//! The columns of the printed sheet. They are laid out in bytes: no format has commas in amounts, or columns as wide as Thai letters stand.
 ghost use Rattle.std.specs.Prelude.{◌≡◌, ◌++◌, OnOk};
 ghost use Rattle.sheet.specs.Layout.{name_cell, level_cells, row_text};
 
@@ -19,23 +19,17 @@ const NAME_WIDTH: usize = 32;
 
 const BLANKS: [u8; NAME_WIDTH] = [b' '; NAME_WIDTH];
 
-fn put(out: &mut Vec<u8>, text: &[u8]) -> Result<(), AllocError>
-    ensures { OnOk result (out.new.items ≡ out.old.items ++ text.now) }
-{
-    out.extend_from_slice(text)
-}
-
 /// Adds a name and blanks up to the end of its column. A wider name has a line of its own.
 fn put_name(out: &mut Vec<u8>, name: &str) -> Result<(), AllocError>
     ensures { OnOk result (out.new.items ≡ out.old.items ++ name_cell name.now) }
 {
+    out.extend_from_slice(name.as_bytes())?;
     let width = columns(name);
-    put(out, name.as_bytes())?;
     if width <= NAME_WIDTH {
-        put(out, &BLANKS[width..NAME_WIDTH])
+        out.extend_from_slice(&BLANKS[width..])
     } else {
-        put(out, b"\n")?;
-        put(out, &BLANKS)
+        out.push(b'\n')?;
+        out.extend_from_slice(&BLANKS)
     }
 }
 
@@ -43,9 +37,9 @@ fn put_name(out: &mut Vec<u8>, name: &str) -> Result<(), AllocError>
 fn put_levels(out: &mut Vec<u8>, levels: Levels) -> Result<(), AllocError>
     ensures { OnOk result (out.new.items ≡ out.old.items ++ level_cells levels) }
 {
-    put(out, &amount(levels.initial))?;
-    put(out, &amount(levels.maintenance))?;
-    put(out, &amount(levels.force))
+    out.extend_from_slice(&amount(levels.initial))?;
+    out.extend_from_slice(&amount(levels.maintenance))?;
+    out.extend_from_slice(&amount(levels.force))
 }
 
 /// Adds the line of a row.
@@ -55,5 +49,6 @@ pub fn put_row(out: &mut Vec<u8>, row: Row<'_>) -> Result<(), AllocError>
     put_name(out, row.name)?;
     put_levels(out, row.outright)?;
     put_levels(out, row.spread)?;
-    put(out, b"\n")
+    out.push(b'\n')?;
+    Ok(())
 }

@@ -6,18 +6,12 @@ ghost use Rattle.sheet.specs.Name.{is_mark, columns};
 fn is_mark(c: char) -> bool
     ensures { result ≡ is_mark c }
 {
-    c == '\u{e31}' || '\u{e34}' <= c && c <= '\u{e3a}' || '\u{e47}' <= c && c <= '\u{e4e}'
+    matches!(c, '\u{e31}' | '\u{e34}'..='\u{e3a}' | '\u{e47}'..='\u{e4e}')
 }
 
 /// How many columns a name takes: one for each character but such marks.
 pub fn columns(name: &str) -> usize
     ensures { result ≡ columns name.now }
 {
-    let mut columns = 0;
-    for c in name.chars() {
-        if !is_mark(c) {
-            columns += 1;
-        }
-    }
-    columns
+    name.chars().filter(|c| !is_mark(*c)).count()
 }

@@ -1,6 +1,11 @@
 //! Whole numbers in decimal digits.
-ghost use Rattle.std.specs.Prelude.{◌≡◌};
-ghost use Rattle.sheet.specs.Number.{all_digits, decimal};
+ghost use Rattle.std.specs.Prelude.{◌≡◌, Some};
+ghost use Rattle.std.specs.Char.{is_ascii_digit};
+ghost use Rattle.std.specs.List.{list_all};
+ghost use Rattle.sheet.specs.Number.{decimal, number_fault_text};
+
+use std::error::Error;
+use std::fmt;
 
 /// Why a text is no number.
 #[derive(Clone, Copy, PartialEq, Eq, Debug)]
@@ -11,18 +16,27 @@ pub enum NumberFault {
     TooLarge,
 }
 
-fn all_digits(text: &[u8]) -> bool
-    ensures { result ≡ all_digits text.now }
-{
-    for b in text {
-        if !b.is_ascii_digit() {
-            return false;
-        }
+impl fmt::Display for NumberFault {
+    ghost output = { λ fault. Some (number_fault_text fault) };
+
+    fn fmt<W: fmt::Write>(&self, f: &mut fmt::Formatter<W>) -> fmt::Result {
+        f.write_str(match self {
+            NumberFault::NotDigits => "not a number",
+            NumberFault::TooLarge => "too large to read",
+        })
     }
-    true
+}
+
+impl Error for NumberFault {}
+
+fn all_digits(text: &[u8]) -> bool
+    ensures { result ≡ list_all is_ascii_digit text.now }
+{
+    text.iter().all(|b| b.is_ascii_digit())
 }
 
 /// The number that decimal digits write.
+#[tactic(auto, using(crate::proofs::Numerals::digits))]
 pub fn decimal(text: &[u8]) -> Result<u64, NumberFault>
     ensures { result ≡ decimal text.now }
 {
@@ -31,11 +45,11 @@ pub fn decimal(text: &[u8]) -> Result<u64, NumberFault>
     }
     let mut number: u64 = 0;
     for b in text {
-        let digit = (*b - b'0') as u64;
-        if number > (u64::MAX - digit) / 10 {
-            return Err(NumberFault::TooLarge);
-        }
-        number = number * 10 + digit;
+        let digit = u64::from(b - b'0');
+        number = number
+            .checked_mul(10)
+            .and_then(|n| n.checked_add(digit))
+            .ok_or(NumberFault::TooLarge)?;
     }
     Ok(number)
 }

@@ -1,31 +1,14 @@
 //! Words and the blanks between them. A blank is ASCII white space.
 ghost use Rattle.std.specs.Prelude.{◌≡◌, ◌≤◌, length};
 ghost use Rattle.std.specs.List.{prefix_len};
-ghost use Rattle.sheet.specs.Word.{solid, word, after_blanks, before_blanks, after_word, trimmed};
+ghost use Rattle.sheet.specs.Word.{solid, word, after_word, trimmed};
 
 /// How many bytes stand before the first blank.
 fn word_len(text: &[u8]) -> usize
     ensures value { result ≡ prefix_len solid text.now }
     ensures bound { result ≤ length text.now }
 {
-    for (i, b) in text.iter().enumerate() {
-        if b.is_ascii_whitespace() {
-            return i;
-        }
-    }
-    text.len()
-}
-
-fn after_blanks(text: &[u8]) -> &[u8]
-    ensures { result.now ≡ after_blanks text.now }
-{
-    text.trim_ascii_start()
-}
-
-fn before_blanks(text: &[u8]) -> &[u8]
-    ensures { result.now ≡ before_blanks text.now }
-{
-    text.trim_ascii_end()
+    text.iter().take_while(|b| !b.is_ascii_whitespace()).count()
 }
 
 /// The first word of a text, and what follows it and the blanks after it.
@@ -34,12 +17,12 @@ pub fn split_word(text: &[u8]) -> (&[u8], &[u8])
     ensures rest { result.1.now ≡ after_word text.now }
 {
     let (word, rest) = text.split_at(word_len(text));
-    (word, after_blanks(rest))
+    (word, rest.trim_ascii_start())
 }
 
 /// A text without the blanks at its two ends.
 pub fn trimmed(text: &[u8]) -> &[u8]
     ensures { result.now ≡ trimmed text.now }
 {
-    before_blanks(after_blanks(text))
+    text.trim_ascii()
 }

@@ -1,14 +1,10 @@
-use Rattle.std.proofs.Common.{sym}
-use Rattle.house.proofs.Tests.{open_found, open_more, open_end}
+use Rattle.std.proofs.Common.{is_some, ◌∙◌, rules}
+use Rattle.std.proofs.lemmas.Iterator.{YieldsList-from_slice}
+use Rattle.std.proofs.lemmas.Iterator.Search.{any_from_yields_List}
+use Rattle.house.proofs.Tests.{list_any_open}
 use Rattle.house.proofs.closing.has_open.Goals as goal
 
-pub returns-then-is_some : goal.returns-then-is_some
-returns-then-is_some c =
-    open_found c.args.account.now.orders c.loop-i.i c.loop-i-test.true (sym c.if-is_some.ensures) c.loop-i.invariant
-
-pub loop-i-preserved : goal.loop-i-preserved
-loop-i-preserved c =
-    open_more c.args.account.now.orders c.loop-i.i c.loop-i-test.true (sym c.if-is_some.ensures) c.loop-i.invariant
-
 pub returns : goal.returns
-returns c = open_end c.args.account.now.orders c.loop-i.i c.loop-i-test.false c.loop-i.invariant
+returns c =
+    let orders = c.args.account.now.orders in
+    any_from_yields_List is_some _ _ _ c.any.ensures.ran (YieldsList-from_slice orders cc) (λ x b q k. search rules) ∙ list_any_open orders

@@ -1,16 +1,13 @@
-use Rattle.std.proofs.Common.{not, sym, ap}
+use Rattle.std.proofs.Common.{not, ◌∙◌, rules}
+use Rattle.std.proofs.lemmas.Iterator.{YieldsList-from_slice}
+use Rattle.std.proofs.lemmas.Iterator.Search.{all_from_yields_List}
+use Rattle.account.proofs.Listings.{list_all_is}
 use Rattle.book.specs.declared.account.Account.{Account}
 use Rattle.book.specs.Orders.{any_open}
-use Rattle.house.proofs.Tests.{all_more, all_stop, all_end}
 use Rattle.house.proofs.closing.none_open.Goals as goal
 
-pub returns-then-has_open : goal.returns-then-has_open
-returns-then-has_open c =
-    all_stop (λ (x : Account). not (any_open x.orders)) c.args.accounts.now c.loop-i.i _ c.loop-i-test.true (ap not (sym c.if-has_open.ensures)) c.loop-i.invariant
-
-pub loop-i-preserved : goal.loop-i-preserved
-loop-i-preserved c =
-    all_more (λ (x : Account). not (any_open x.orders)) c.args.accounts.now c.loop-i.i _ c.loop-i-test.true (ap not (sym c.if-has_open.ensures)) c.loop-i.invariant
-
 pub returns : goal.returns
-returns c = all_end (λ (x : Account). not (any_open x.orders)) c.args.accounts.now c.loop-i.i c.loop-i-test.false c.loop-i.invariant
+returns c =
+    let accounts = c.args.accounts.now in
+    let none = λ (x : Account). not (any_open x.orders) in
+    all_from_yields_List none _ _ _ c.all.ensures.ran (YieldsList-from_slice accounts cc) (λ x b q k. search rules) ∙ list_all_is none accounts

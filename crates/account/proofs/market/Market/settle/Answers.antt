@@ -1,27 +1,10 @@
-use Rattle.std.proofs.Common.{List, vec_len, ap}
-use Rattle.book.specs.declared.market.Series.{Series}
+use Rattle.std.proofs.Common.{vec_len}
 use Rattle.book.specs.Prices.{settle_prices}
-use Rattle.account.specs.View.{the_market, with_series}
-use Rattle.account.proofs.Listings.{rewritten, rewritten_known, settle_length, settle_products}
+use Rattle.account.proofs.Listings.{rewritten_known, settle_length, settle_products}
 use Rattle.account.proofs.market.Market.settle.Goals as goal
 
-pub invariant_of-self : goal.invariant_of-self
-invariant_of-self g c =
+pub invariant_of-self-clause-known : goal.invariant_of-self-clause-known
+invariant_of-self-clause-known g c =
     let m = c.args.self.now in
-    let ps = c.args.prices.now in
-    let known = rewritten_known (settle_prices ps) (settle_length ps) (settle_products ps) m.series _ _ (vec_len m.products) c.as_mut_slice.ensures.value c.settle_all.ensures m.known in
-    record {
-      few_products = m.few_products;
-      few_series = m.few_series;
-      product_room = m.product_room;
-      series_room = m.series_room;
-      fits = m.fits;
-      known = known;
-    }
-
-pub returns : goal.returns
-returns g c =
-    let m = c.args.self.now in
-    let ps = c.args.prices.now in
-    ap (λ (ss : List Series). with_series ss (the_market g.R.MarginRule.meaning m))
-    (rewritten (settle_prices ps) (settle_length ps) m.series _ _ c.as_mut_slice.ensures.value c.settle_all.ensures)
+    let qs = c.args.prices.now in
+    rewritten_known (settle_prices qs) (settle_length qs) (settle_products qs) m.series _ _ (vec_len m.products) c.as_mut_slice.ensures.value c.settle_all.ensures m.known

@@ -5,19 +5,10 @@ use Rattle.book.specs.Prices.{printed}
 use Rattle.house.proofs.Listed.{sound_printed}
 use Rattle.house.proofs.house.House.print.Goals as goal
 
-pub invariant_of-self : goal.invariant_of-self
-invariant_of-self g c =
+pub invariant_of-self-clause-sound : goal.invariant_of-self-clause-sound
+invariant_of-self-clause-sound g c =
     let h = c.args.self.now in
     let view = the_market g.R.MarginRule.meaning in
     let i = c.args.series in
-    let each = sound_printed (view h.market) (view c.print.new.self) i (printed c.args.price (series_at (vec_items h.market.series) i).quote)
-    (vec_len h.placed) (vec_len h.accounts) (vec_items h.accounts) c.print.ensures h.sound in
-    record {
-      few = h.few;
-      room = h.room;
-      numbers = h.numbers;
-      number_room = h.number_room;
-      sound = each;
-      place_account = h.place_account;
-      place_product = h.place_product;
-    }
+    sound_printed (view h.market) (view c.print.new.self) i (printed c.args.price (series_at (vec_items h.market.series) i).quote)
+    (vec_len h.placed) (vec_len h.accounts) (vec_items h.accounts) c.print.ensures h.sound
