@@ -60,12 +60,11 @@ pub fn call_at_closing(
             low: open.low || low,
             ..open
         }),
-        None if below(equity, maintenance) => Some(MarginCall {
+        None => below(equity, maintenance).then(|| MarginCall {
             amount: shortfall(equity, initial),
             credit: 0,
             age: 0,
             low,
         }),
-        None => None,
     }
 }

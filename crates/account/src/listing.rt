@@ -28,11 +28,13 @@ pub fn is_price(price: u64) -> bool
 fn settled_at(series: Series, settlement: u32) -> Series
     ensures { result ≡ with_quote (settled settlement) series }
 {
-    let quote = Quote {
-        settlement,
-        last: None,
-    };
-    Series { quote, ..series }
+    Series {
+        quote: Quote {
+            settlement,
+            last: None,
+        },
+        ..series
+    }
 }
 
 /// Series whose day begins without prints.

@@ -32,6 +32,7 @@ impl<'a> SettlementPrices<'a> {
     pub fn new(prices: &'a [u64]) -> Option<SettlementPrices<'a>>
         ensures { result ≡ (if all price_in_range prices.now then Some prices.now else None) }
     {
+        // Not by `then`: its closure does not know that the prices are in range.
         if all_in_range(prices) {
             Some(SettlementPrices { prices })
         } else {

@@ -52,8 +52,9 @@ fn settle_all<R: MarginRule>(market: &Market<R>, accounts: &mut [Account])
     requires { Settleable (the_market R.meaning market.now) accounts.old }
     ensures { accounts.new ≡ map (settle_account (the_market R.meaning market.now)) accounts.old }
 {
-    for account in accounts.iter_mut() {
-        *account = market.settled(account);
+    // By index and element, as the project has it for Closing (docs/DECISIONS.md, C).
+    for i in 0..accounts.len() {
+        accounts[i] = market.settled(&accounts[i]);
     }
 }
 

@@ -63,22 +63,16 @@ fn take_line(
 }
 
 /// Runs the script, line by line.
-fn run_lines<B: Read, W: Write>(
+fn run_lines<B: Read + Drop, W: Write>(
     rt: &HostRuntime,
-    input: &mut BufReader<B>,
+    input: BufReader<B>,
     output: &mut W,
     session: &mut Session,
 ) -> io::Result<()> {
-    let mut line = Vec::new(rt.alloc());
     let mut prices = Vec::new(rt.alloc());
     let mut answer = String::new(rt.alloc());
-    // A count, since a loop over what comes in has to be seen to end.
-    for _ in 0..u64::MAX {
-        line.clear();
-        if input.read_until(b'\n', &mut line)? == 0 {
-            break;
-        }
-        if let Some(reply) = take_line(rt, session, line.as_slice(), &mut prices)? {
+    for line in input.split(rt.alloc(), b'\n') {
+        if let Some(reply) = take_line(rt, session, &line?, &mut prices)? {
             answer.clear();
             put_reply(&mut answer, reply)?;
             output.write_all(answer.as_bytes())?;
@@ -89,10 +83,10 @@ fn run_lines<B: Read, W: Write>(
 
 /// Runs the script, and shuts its house down.
 fn run<B: Read + Drop>(rt: &HostRuntime, source: B) -> io::Result<()> {
-    let mut input = BufReader::new(rt.alloc(), source)?;
+    let input = BufReader::new(rt.alloc(), source)?;
     let mut output = BufWriter::new(rt.alloc(), rt.stdout())?;
     let mut session = Session::Waiting;
-    let outcome = run_lines(rt, &mut input, &mut output, &mut session);
+    let outcome = run_lines(rt, input, &mut output, &mut session);
     session.end();
     output.flush()?;
     outcome

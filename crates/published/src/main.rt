@@ -170,10 +170,11 @@ fn report(rt: &HostRuntime, number: u64, fault: Fault<'_>) {
     }
 }
 
-fn check_table(rt: &HostRuntime) -> io::Result<bool> {
+/// Compares the table. Fails where a line differs or is no rate.
+fn check_table(rt: &HostRuntime) -> io::Result<ExitCode> {
     let input = BufReader::new(rt.alloc(), rt.stdin())?;
     let (mut outright, mut spread) = (0u64, 0u64);
-    let mut all_agree = true;
+    let mut status = ExitCode::SUCCESS;
     for (number, line) in (1u64..).zip(input.split(rt.alloc(), b'\n')) {
         let line = line?;
         match judge(&line) {
@@ -181,23 +182,19 @@ fn check_table(rt: &HostRuntime) -> io::Result<bool> {
             Ok(Some(Kind::Outright)) => outright = outright.saturating_add(1),
             Ok(Some(Kind::Spread)) => spread = spread.saturating_add(1),
             Err(fault) => {
-                all_agree = false;
+                status = ExitCode::FAILURE;
                 report(rt, number, fault);
             }
         }
     }
     println!(rt; "{outright} outright rows and {spread} spread rows agree")?;
-    Ok(all_agree)
+    Ok(status)
 }
 
 /// Ends with an error where a line differs or is no rate, the table cannot be read, or the result cannot be written.
 fn main(rt: HostRuntime) -> ExitCode {
-    match check_table(&rt) {
-        Ok(true) => ExitCode::SUCCESS,
-        Ok(false) => ExitCode::FAILURE,
-        Err(e) => {
-            let _ = eprintln!(rt; "published: {e}");
-            ExitCode::FAILURE
-        }
-    }
+    check_table(&rt).unwrap_or_else(|e| {
+        let _ = eprintln!(rt; "published: {e}");
+        ExitCode::FAILURE
+    })
 }

@@ -7,21 +7,15 @@ use std::io;
 use std::io::{BufRead, BufReader, BufWriter, Write};
 use std::process::ExitCode;
 
-/// Prints the sheet, and names the lines that are no rows on standard error. Answers whether there were none.
-fn print_sheet(rt: &HostRuntime) -> io::Result<bool> {
-    let mut input = BufReader::new(rt.alloc(), rt.stdin())?;
+/// Prints the sheet, and names the lines that are no rows on standard error. Fails where there is one.
+fn print_sheet(rt: &HostRuntime) -> io::Result<ExitCode> {
+    let input = BufReader::new(rt.alloc(), rt.stdin())?;
     let mut output = BufWriter::new(rt.alloc(), rt.stdout())?;
-    let mut line = Vec::new(rt.alloc());
     let mut text = Vec::new(rt.alloc());
-    let mut all_read = true;
+    let mut status = ExitCode::SUCCESS;
     output.write_all(HEADER.as_bytes())?;
-    // Not by `split`, which takes memory for each line: a sheet of any length is read into one buffer.
-    for number in 1..u64::MAX {
-        line.clear();
-        if input.read_until(b'\n', &mut line)? == 0 {
-            break;
-        }
-        match read_row(&line) {
+    for (number, line) in (1u64..).zip(input.split(rt.alloc(), b'\n')) {
+        match read_row(&line?) {
             Ok(None) => {}
             Ok(Some(row)) => {
                 text.clear();
@@ -29,24 +23,20 @@ fn print_sheet(rt: &HostRuntime) -> io::Result<bool> {
                 output.write_all(&text)?;
             }
             Err(fault) => {
-                all_read = false;
+                status = ExitCode::FAILURE;
                 output.flush()?;
                 let _ = eprintln!(rt; "line {number}: {fault}");
             }
         }
     }
     output.flush()?;
-    Ok(all_read)
+    Ok(status)
 }
 
 /// Ends with an error where some lines are no rows, the input cannot be read, or the sheet cannot be written.
 fn main(rt: HostRuntime) -> ExitCode {
-    match print_sheet(&rt) {
-        Ok(true) => ExitCode::SUCCESS,
-        Ok(false) => ExitCode::FAILURE,
-        Err(e) => {
-            let _ = eprintln!(rt; "rates: {e}");
-            ExitCode::FAILURE
-        }
-    }
+    print_sheet(&rt).unwrap_or_else(|e| {
+        let _ = eprintln!(rt; "rates: {e}");
+        ExitCode::FAILURE
+    })
 }

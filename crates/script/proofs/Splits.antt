@@ -4,7 +4,7 @@ use Rattle.std.proofs.lemmas.Grind.{common_steps}
 use Rattle.sheet.specs.Word.{word, after_word}
 use Rattle.script.specs.Words.{words_by, words}
 
-shorter : (b : ℕ) (bs : List ℕ) → length (after_word (b ∷ bs)) ≤ length bs
+pub shorter : (b : ℕ) (bs : List ℕ) → length (after_word (b ∷ bs)) ≤ length bs
 shorter b bs = grind (arith, common_steps)
 
 -- more turns than bytes make no difference

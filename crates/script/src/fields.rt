@@ -1,6 +1,7 @@
 //! The words of a line, and the numbers that they write.
-ghost use Rattle.std.specs.Prelude.{◌≡◌, [], ◌∷◌, not, position, MatchOption};
+ghost use Rattle.std.specs.Prelude.{◌≡◌, [], ◌∷◌, not, position, MatchOption, IfSome};
 ghost use Rattle.std.specs.Option.{option_map};
+ghost use Rattle.sheet.specs.Word.{after_blanks};
 ghost use Rattle.script.specs.Words.{plain, before_comment, words};
 ghost use Rattle.script.specs.Fields.{first_number, only, numbers_of};
 
@@ -25,15 +26,12 @@ pub(crate) fn before_comment(line: &[u8]) -> &[u8]
 }
 
 /// The first word of a text and what follows it, if the text has a word.
-#[tactic(auto, using(crate::proofs::Splits::words_none, crate::proofs::Splits::words_more))]
+#[tactic(auto, using(crate::proofs::Splits::words_none, crate::proofs::Splits::words_more, crate::proofs::Parts::no_blank))]
 pub(crate) fn first_word(text: &[u8]) -> Option<(&[u8], &[u8])>
-    ensures { MatchOption result (words text.now ≡ []) (λ r. words text.now ≡ r.0.now ∷ words r.1.now) }
+    ensures words { MatchOption result (words text.now ≡ []) (λ r. words text.now ≡ r.0.now ∷ words r.1.now) }
+    ensures start { IfSome result (λ r. after_blanks r.1.now ≡ r.1.now) }
 {
-    if text.is_empty() {
-        None
-    } else {
-        Some(split_word(text))
-    }
+    (!text.is_empty()).then(|| split_word(text))
 }
 
 /// The number of the first word and what follows that word.
@@ -49,10 +47,7 @@ pub(crate) fn only(text: &[u8]) -> Option<&[u8]>
     ensures { option_map (λ x. x.now) result ≡ only (words text.now) }
 {
     let (word, rest) = first_word(text)?;
-    match first_word(rest) {
-        Some(_) => None,
-        None => Some(word),
-    }
+    first_word(rest).is_none().then_some(word)
 }
 
 /// The numbers of `N` words and no more.
@@ -66,8 +61,5 @@ pub(crate) fn numbers<const N: usize>(text: &[u8]) -> Option<[u64; N]>
         *n = number(word)?;
         rest = after;
     }
-    match first_word(rest) {
-        Some(_) => None,
-        None => Some(numbers),
-    }
+    first_word(rest).is_none().then_some(numbers)
 }

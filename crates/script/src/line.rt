@@ -1,5 +1,6 @@
 //! What a line of a script says.
 ghost use Rattle.std.specs.Prelude.{◌≡◌, IfOk, IsErrOf, Some, None};
+ghost use Rattle.sheet.specs.Word.{after_blanks};
 ghost use Rattle.script.specs.Words.{words};
 ghost use Rattle.script.specs.Line.{numbers, of_line, IsResultOf};
 ghost use Rattle.script.specs.declared.line.ReadError.TheVariants.{OutOfMemory};
@@ -29,15 +30,16 @@ impl<T: Drop> From<AllocFailed<T>> for ReadError {
 
 /// The numbers of all words of a text, which the list then holds.
 fn all_numbers<'p>(text: &[u8], list: &'p mut Vec<u64>) -> Result<&'p [u64], ReadError>
+    requires { after_blanks text.now ≡ text.now }
     ensures ok { IfOk result (λ ns. numbers (words text.now) ≡ Some ns.now) }
     ensures unreadable { IsErrOf result ReadError.Unreadable → numbers (words text.now) ≡ None }
 {
     list.clear();
-    let mut rest = text;
-    // Word by word: an iterator of words would be a type of its own for this one loop.
-    while let Some((word, after)) = first_word(rest) {
+    for word in text
+        .split(|b| b.is_ascii_whitespace())
+        .filter(|w| !w.is_empty())
+    {
         list.push(number(word).ok_or(ReadError::Unreadable)?)?;
-        rest = after;
     }
     Ok(list.as_slice())
 }

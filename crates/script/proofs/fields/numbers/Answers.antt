@@ -7,5 +7,5 @@ loop-n-preserved g c = record {
   count = search rules;
   so_far =
       onto_more c.loop-n.n-items c.loop-n.n-index g.row.N c.in_ok-n.field-0 c.in_ok-word.word.now _ _ (omega arith) (omega arith)
-      c.in_ok-word.ensures c.in_ok-n.ensures c.loop-n.invariant.so_far;
+      c.in_ok-word.ensures.words c.in_ok-n.ensures c.loop-n.invariant.so_far;
 }
