@@ -44,7 +44,7 @@ call_of (K.Send order) = None
 call_of (K.Drop order) = None
 call_of (K.Fill order price second) = Some (C.Fill order price second)
 call_of (K.Cancel order) = Some (C.Cancel order)
-call_of (K.Closing prices) = None
+call_of K.Closing = None
 call_of (K.Figures account) = Some (C.Figures account)
 
 -- A reply is the rulebook's answer to the command's call, and the house after it the rulebook's.

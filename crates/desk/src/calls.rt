@@ -18,8 +18,8 @@ pub struct Desk<H> {
 }
 
 /// A call on a closed house, but for Opening.
-pub fn on_closed<R: MarginRule>(house: &mut Closed<R>, command: Command<'_>) -> Reply
-    ensures { Replied (call_of command.entry) (the_closed R.meaning house.old) result (the_closed R.meaning house.new) }
+pub fn on_closed<R: MarginRule>(house: &mut Closed<R>, command: Command) -> Reply
+    ensures { Replied (call_of command) (the_closed R.meaning house.old) result (the_closed R.meaning house.new) }
 {
     match command {
         Command::House { .. } => Err(Fault::Unreadable),
@@ -45,88 +45,107 @@ pub fn on_closed<R: MarginRule>(house: &mut Closed<R>, command: Command<'_>) -> 
     }
 }
 
+/// Spends the ticket of an order by Send or by Drop; one that comes back stays in hand.
+fn spend<R: MarginRule, F>(
+    house: &mut Trading<R>,
+    tickets: &mut Vec<Ticket>,
+    order: u64,
+    call: F,
+) -> Reply
+where
+    F: FnOnce(&mut Trading<R>, Ticket) -> Result<(), (Ticket, Refusal)>,
+    requires { F.IsAlwaysCallable call }
+{
+    let place = tickets
+        .iter()
+        .position(|ticket| ticket.order() == order)
+        .ok_or(Refusal::NoSuchOrder)?;
+    let ticket = tickets.swap_remove(place);
+    match call(house, ticket) {
+        Ok(()) => Ok(Answer::Done),
+        Err((ticket, refusal)) => {
+            tickets.push_reserved(ticket);
+            Err(Fault::Refused(refusal))
+        }
+    }
+}
+
+/// A call but for Closing, with a place for the ticket of a Check.
+fn reply<R: MarginRule>(
+    house: &mut Trading<R>,
+    tickets: &mut Vec<Ticket>,
+    command: Command,
+) -> Reply
+    requires { HasPlaceFor command (vec_len tickets.old) (vec_capacity tickets.old) }
+    ensures { Replied (call_of command) (the_trading R.meaning house.old) result (the_trading R.meaning house.new) }
+{
+    match command {
+        Command::House { .. } => Err(Fault::Unreadable),
+        Command::Clock { minute } => {
+            house.clock(minute)?;
+            Ok(Answer::Done)
+        }
+        Command::Print { series, price } => {
+            house.print(series, price)?;
+            Ok(Answer::Done)
+        }
+        Command::Deposit { account, amount } => {
+            house.deposit(account, amount)?;
+            Ok(Answer::Done)
+        }
+        Command::Withdraw { account, amount } => {
+            house.withdraw(account, amount)?;
+            Ok(Answer::Done)
+        }
+        Command::Check {
+            account,
+            series,
+            lots,
+            second,
+        } => {
+            let ticket = house.check(account, series, lots, second)?;
+            let order = ticket.order();
+            tickets.push_reserved(ticket);
+            Ok(Answer::Ordered(order))
+        }
+        Command::Send { order } => spend(house, tickets, order, Trading::send),
+        Command::Drop { order } => spend(house, tickets, order, Trading::drop_order),
+        Command::Fill {
+            order,
+            price,
+            second,
+        } => {
+            house.fill(order, price, second)?;
+            Ok(Answer::Done)
+        }
+        Command::Cancel { order } => {
+            house.cancel(order)?;
+            Ok(Answer::Done)
+        }
+        Command::Figures { account } => Ok(Answer::Told(house.figures(account)?)),
+        _ => Err(Fault::NotNow),
+    }
+}
+
+/// A call on a trading house, but for Closing; an error where memory wants for a ticket.
+pub fn on_trading<R: MarginRule>(
+    house: &mut Trading<R>,
+    tickets: &mut Vec<Ticket>,
+    command: Command,
+) -> Result<Reply, AllocError>
+    ensures { IfOk result (λ x. Replied (call_of command) (the_trading R.meaning house.old) x (the_trading R.meaning house.new)) }
+{
+    if let Command::Check { .. } = command {
+        tickets.reserve(1)?;
+    }
+    Ok(reply(house, tickets, command))
+}
+
 impl<R: MarginRule> Desk<Trading<R>> {
-    /// Spends the ticket of an order by Send or by Drop; one that comes back stays in hand.
-    fn spend<F>(&mut self, order: u64, call: F) -> Reply
-    where
-        F: FnOnce(&mut Trading<R>, Ticket) -> Result<(), (Ticket, Refusal)>,
-        requires { F.IsAlwaysCallable call }
+    /// A call on the house of this desk.
+    pub fn on_trading(&mut self, command: Command) -> Result<Reply, AllocError>
+        ensures { IfOk result (λ x. Replied (call_of command) (the_trading R.meaning self.old.house) x (the_trading R.meaning self.new.house)) }
     {
-        let place = self
-            .tickets
-            .iter()
-            .position(|ticket| ticket.order() == order)
-            .ok_or(Refusal::NoSuchOrder)?;
-        let ticket = self.tickets.swap_remove(place);
-        match call(&mut self.house, ticket) {
-            Ok(()) => Ok(Answer::Done),
-            Err((ticket, refusal)) => {
-                self.tickets.push_reserved(ticket);
-                Err(Fault::Refused(refusal))
-            }
-        }
-    }
-
-    /// A call but for Closing, with a place for the ticket of a Check.
-    fn reply(&mut self, command: Command<'_>) -> Reply
-        requires { HasPlaceFor command (vec_len self.old.tickets) (vec_capacity self.old.tickets) }
-        ensures { Replied (call_of command.entry) (the_trading R.meaning self.old.house) result (the_trading R.meaning self.new.house) }
-    {
-        match command {
-            Command::House { .. } => Err(Fault::Unreadable),
-            Command::Clock { minute } => {
-                self.house.clock(minute)?;
-                Ok(Answer::Done)
-            }
-            Command::Print { series, price } => {
-                self.house.print(series, price)?;
-                Ok(Answer::Done)
-            }
-            Command::Deposit { account, amount } => {
-                self.house.deposit(account, amount)?;
-                Ok(Answer::Done)
-            }
-            Command::Withdraw { account, amount } => {
-                self.house.withdraw(account, amount)?;
-                Ok(Answer::Done)
-            }
-            Command::Check {
-                account,
-                series,
-                lots,
-                second,
-            } => {
-                let ticket = self.house.check(account, series, lots, second)?;
-                let order = ticket.order();
-                self.tickets.push_reserved(ticket);
-                Ok(Answer::Ordered(order))
-            }
-            Command::Send { order } => self.spend(order, Trading::send),
-            Command::Drop { order } => self.spend(order, Trading::drop_order),
-            Command::Fill {
-                order,
-                price,
-                second,
-            } => {
-                self.house.fill(order, price, second)?;
-                Ok(Answer::Done)
-            }
-            Command::Cancel { order } => {
-                self.house.cancel(order)?;
-                Ok(Answer::Done)
-            }
-            Command::Figures { account } => Ok(Answer::Told(self.house.figures(account)?)),
-            _ => Err(Fault::NotNow),
-        }
-    }
-
-    /// A call on a trading house, but for Closing; an error where memory wants for a ticket.
-    pub fn on_trading(&mut self, command: Command<'_>) -> Result<Reply, AllocError>
-        ensures { IfOk result (λ x. Replied (call_of command.entry) (the_trading R.meaning self.old.house) x (the_trading R.meaning self.new.house)) }
-    {
-        if let Command::Check { .. } = command {
-            self.tickets.reserve(1)?;
-        }
-        Ok(self.reply(command))
+        on_trading(&mut self.house, &mut self.tickets, command)
     }
 }

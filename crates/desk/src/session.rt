@@ -57,21 +57,26 @@ fn close(Desk { house, tickets }: Desk<Trading<RuleChoice>>, prices: &[u64]) -> 
 }
 
 impl Session {
-    /// What a command is replied. House, Opening and Closing move the session on; the rest is done in place.
-    pub fn next(&mut self, heap: Global, command: Command<'_>) -> Result<Reply, AllocError> {
+    /// What a command is replied, a closing at these prices. House, Opening and Closing move the session on; the rest is done in place.
+    pub fn next(
+        &mut self,
+        heap: Global,
+        command: Command,
+        prices: &[u64],
+    ) -> Result<Reply, AllocError> {
         match self {
             Session::Closed(desk) if !matches!(command, Command::Opening) => {
                 return Ok(on_closed(&mut desk.house, command));
             }
-            Session::Trading(desk) if !matches!(command, Command::Closing { .. }) => {
+            Session::Trading(desk) if !matches!(command, Command::Closing) => {
                 return desk.on_trading(command);
             }
             _ => {}
         }
-        replace_with(self, command, |session, command| match (session, command) {
+        replace_with(self, (command, prices), |session, (command, prices)| match (session, command) {
             (Session::Waiting, Command::House { number, rule }) => set_up(heap, number, rule),
             (Session::Closed(desk), Command::Opening) => open(desk),
-            (Session::Trading(desk), Command::Closing { prices }) => close(desk, prices),
+            (Session::Trading(desk), Command::Closing) => close(desk, prices),
             (session, _) => (session, Ok(Err(Fault::Unreadable))),
         })
     }

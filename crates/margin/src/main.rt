@@ -56,7 +56,7 @@ fn take_line(
 ) -> io::Result<Option<Reply>> {
     match read(line, prices) {
         Ok(None) => Ok(None),
-        Ok(Some(command)) => Ok(Some(session.next(rt.alloc(), command)?)),
+        Ok(Some(command)) => Ok(Some(session.next(rt.alloc(), command, prices)?)),
         Err(ReadError::Unreadable) => Ok(Some(Err(Fault::Unreadable))),
         Err(ReadError::OutOfMemory) => Err(io::ErrorKind::OutOfMemory.into()),
     }
@@ -65,17 +65,22 @@ fn take_line(
 /// Runs the script, line by line.
 fn run_lines<B: Read + Drop, W: Write>(
     rt: &HostRuntime,
-    input: BufReader<B>,
+    mut input: BufReader<B>,
     output: &mut W,
     session: &mut Session,
 ) -> io::Result<()> {
+    let mut line = Vec::new(rt.alloc());
     let mut prices = Vec::new(rt.alloc());
-    let mut answer = String::new(rt.alloc());
-    for line in input.split(rt.alloc(), b'\n') {
-        if let Some(reply) = take_line(rt, session, &line?, &mut prices)? {
+    let mut answer = Vec::new(rt.alloc());
+    for _ in 0..u64::MAX {
+        line.clear();
+        if input.read_until(b'\n', &mut line)? == 0 {
+            break;
+        }
+        if let Some(reply) = take_line(rt, session, &line, &mut prices)? {
             answer.clear();
             put_reply(&mut answer, reply)?;
-            output.write_all(answer.as_bytes())?;
+            output.write_all(&answer)?;
         }
     }
     Ok(())

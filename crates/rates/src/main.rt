@@ -9,13 +9,18 @@ use std::process::ExitCode;
 
 /// Prints the sheet, and names the lines that are no rows on standard error. Fails where there is one.
 fn print_sheet(rt: &HostRuntime) -> io::Result<ExitCode> {
-    let input = BufReader::new(rt.alloc(), rt.stdin())?;
+    let mut input = BufReader::new(rt.alloc(), rt.stdin())?;
     let mut output = BufWriter::new(rt.alloc(), rt.stdout())?;
+    let mut line = Vec::new(rt.alloc());
     let mut text = Vec::new(rt.alloc());
     let mut status = ExitCode::SUCCESS;
     output.write_all(HEADER.as_bytes())?;
-    for (number, line) in (1u64..).zip(input.split(rt.alloc(), b'\n')) {
-        match read_row(&line?) {
+    for number in 1..u64::MAX {
+        line.clear();
+        if input.read_until(b'\n', &mut line)? == 0 {
+            break;
+        }
+        match read_row(&line) {
             Ok(None) => {}
             Ok(Some(row)) => {
                 text.clear();

@@ -1,6 +1,5 @@
 -- What a line of a script says.
 use Rattle.std.specs.Prelude.{◌≡◌, ℕ, if◌then◌else◌, List, [], ◌∷◌, Some, None, Ok, Err, Option, Result}
-use Rattle.std.specs.Borrow.{Bor}
 use Rattle.script.specs.declared.command.Command.{Command}
 use Rattle.script.specs.declared.command.Command.TheVariants as call
 use Rattle.script.specs.declared.line.ReadError.{ReadError}
@@ -39,9 +38,9 @@ of_words (name ∷ ws) = if is name "closing" then closing ws else called (call_
 abbrev pub of_line : List ℕ → Reading
 of_line line = of_words (line_words line)
 
--- The result of a line that says this. The prices of a closing are those behind its reference.
-abbrev pub IsResultOf : Reading → Result (Option Command) ReadError → Type 0
-IsResultOf Empty r = r ≡ Ok None
-IsResultOf Unreadable r = r ≡ Err error.Unreadable
-IsResultOf (Closing ns) r = (prices : Bor (List ℕ)) × (prices.now ≡ ns) × (r ≡ Ok (Some (call.Closing prices)))
-IsResultOf (Call c) r = r ≡ Ok (Some c)
+-- The result of a line that says this, and the list of prices that is left with it.
+abbrev pub IsResultOf : Reading → Result (Option Command) ReadError → List ℕ → Type 0
+IsResultOf Empty r ps = (r ≡ Ok None) × (ps ≡ [])
+IsResultOf Unreadable r ps = (r ≡ Err error.Unreadable) × (ps ≡ [])
+IsResultOf (Closing ns) r ps = (r ≡ Ok (Some call.Closing)) × (ps ≡ ns)
+IsResultOf (Call c) r ps = (r ≡ Ok (Some c)) × (ps ≡ [])

@@ -1,10 +1,12 @@
 //! What calls are answered, and how an answer is printed.
-ghost use Rattle.std.specs.Prelude.{◌≡◌, ◌++◌, Some, OnOk, string_bytes};
-ghost use Rattle.script.specs.Answers.{any_call_fields, answer_text, fault_text, reply_line};
+ghost use Rattle.std.specs.Prelude.{◌≡◌, ◌∷◌, ◌++◌, Some, OnOk};
+ghost use Rattle.script.specs.Answers.{ok_line, ok_number_line, refused_line, not_now_line, unreadable_line};
+ghost use Rattle.script.specs.Answers.{requirement_fields, call_fields, any_call_fields, figures_fields, figures_line, answer_text, fault_text, reply_line};
 ghost use Rattle.script.specs.declared.answer.Fault.TheVariants.{Refused};
 
 use book::account::{Figures, MarginCall};
 use book::refusal::Refusal;
+use itoa::{Buffer, Integer};
 use std::alloc::AllocError;
 use std::fmt;
 
@@ -102,12 +104,116 @@ impl fmt::Display for Fault {
 /// What a call of a script is answered.
 pub type Reply = Result<Answer, Fault>;
 
+/// Adds a blank and a number.
+fn put_field<I: Integer>(out: &mut Vec<u8>, number: I) -> Result<(), AllocError>
+    ensures { OnOk result (out.new.items ≡ out.old.items ++ 32 ∷ I.text number) }
+{
+    let mut digits = Buffer::new();
+    out.push(b' ')?;
+    out.extend_from_slice(digits.format(number).as_bytes())
+}
+
+/// Adds the line of a granted call.
+pub fn put_ok(out: &mut Vec<u8>) -> Result<(), AllocError>
+    ensures { OnOk result (out.new.items ≡ out.old.items ++ ok_line) }
+{
+    out.extend_from_slice(b"ok\n")
+}
+
+/// Adds the line of a granted call that answers a number.
+pub fn put_ok_number(out: &mut Vec<u8>, number: u64) -> Result<(), AllocError>
+    ensures { OnOk result (out.new.items ≡ out.old.items ++ ok_number_line number) }
+{
+    out.extend_from_slice(b"ok")?;
+    put_field(out, number)?;
+    out.extend_from_slice(b"\n")
+}
+
+/// Adds the three requirements.
+fn put_requirements(out: &mut Vec<u8>, figures: Figures) -> Result<(), AllocError>
+    ensures { OnOk result (out.new.items ≡ out.old.items ++ requirement_fields figures) }
+{
+    put_field(out, figures.initial)?;
+    put_field(out, figures.maintenance)?;
+    put_field(out, figures.force)
+}
+
+/// Adds what a margin call holds.
+fn put_call(out: &mut Vec<u8>, call: MarginCall) -> Result<(), AllocError>
+    ensures { OnOk result (out.new.items ≡ out.old.items ++ call_fields call) }
+{
+    put_field(out, call.amount)?;
+    put_field(out, call.credit)?;
+    put_field(out, call.age)?;
+    if call.low {
+        out.extend_from_slice(b" low")
+    } else {
+        out.extend_from_slice(b" high")
+    }
+}
+
+/// Adds a margin call, or a minus where there is none.
+fn put_any_call(out: &mut Vec<u8>, call: Option<MarginCall>) -> Result<(), AllocError>
+    ensures { OnOk result (out.new.items ≡ out.old.items ++ any_call_fields call) }
+{
+    match call {
+        Some(call) => put_call(out, call),
+        None => out.extend_from_slice(b" -"),
+    }
+}
+
+/// Adds the figures of an account, each after a blank.
+fn put_figures_fields(out: &mut Vec<u8>, figures: Figures) -> Result<(), AllocError>
+    ensures { OnOk result (out.new.items ≡ out.old.items ++ figures_fields figures) }
+{
+    put_field(out, figures.equity)?;
+    put_requirements(out, figures)?;
+    put_field(out, figures.free)?;
+    put_any_call(out, figures.call)
+}
+
+/// Adds the line of the figures of an account.
+pub fn put_figures(out: &mut Vec<u8>, figures: Figures) -> Result<(), AllocError>
+    ensures { OnOk result (out.new.items ≡ out.old.items ++ figures_line figures) }
+{
+    out.extend_from_slice(b"ok")?;
+    put_figures_fields(out, figures)?;
+    out.extend_from_slice(b"\n")
+}
+
+/// Adds the line of a refusal.
+pub fn put_refused(out: &mut Vec<u8>, refusal: Refusal) -> Result<(), AllocError>
+    ensures { OnOk result (out.new.items ≡ out.old.items ++ refused_line refusal) }
+{
+    out.extend_from_slice(b"refused")?;
+    put_field(out, u8::from(refusal))?;
+    out.extend_from_slice(b"\n")
+}
+
+/// Adds the line of a call that does not exist in the house's present state.
+pub fn put_not_now(out: &mut Vec<u8>) -> Result<(), AllocError>
+    ensures { OnOk result (out.new.items ≡ out.old.items ++ not_now_line) }
+{
+    out.extend_from_slice(b"not now\n")
+}
+
+/// Adds the line of a line that is no call.
+pub fn put_unreadable(out: &mut Vec<u8>) -> Result<(), AllocError>
+    ensures { OnOk result (out.new.items ≡ out.old.items ++ unreadable_line) }
+{
+    out.extend_from_slice(b"unreadable\n")
+}
+
 /// Adds the line of a reply.
-pub fn put_reply(out: &mut String, reply: Reply) -> Result<(), AllocError>
-    ensures { OnOk result (string_bytes out.new ≡ string_bytes out.old ++ reply_line reply) }
+pub fn put_reply(out: &mut Vec<u8>, reply: Reply) -> Result<(), AllocError>
+    ensures { OnOk result (out.new.items ≡ out.old.items ++ reply_line reply) }
 {
     match reply {
-        Ok(answer) => writeln!(out, "{answer}"),
-        Err(fault) => writeln!(out, "{fault}"),
+        Ok(Answer::Done) => put_ok(out),
+        Ok(Answer::Entered(number) | Answer::Ordered(number)) => put_ok_number(out, number),
+        Ok(Answer::Told(figures)) => put_figures(out, figures),
+        Err(Fault::Refused(why)) => put_refused(out, why),
+        Err(Fault::NotNow) => put_not_now(out),
+        Err(Fault::Unreadable) => put_unreadable(out),
     }
 }

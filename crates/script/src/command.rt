@@ -10,7 +10,7 @@ use rules::rule::RuleChoice;
 
 /// A call on a house.
 #[derive(Clone, Copy, PartialEq, Eq, Debug)]
-pub enum Command<'p> {
+pub enum Command {
     House {
         number: u32,
         rule: RuleChoice,
@@ -66,9 +66,8 @@ pub enum Command<'p> {
     Cancel {
         order: u64,
     },
-    Closing {
-        prices: &'p [u64],
-    },
+    /// Its prices stand in the list that the line was read with.
+    Closing,
     Figures {
         account: u64,
     },
@@ -87,7 +86,7 @@ fn rule_of(word: &[u8]) -> Option<RuleChoice>
 }
 
 /// A house number and a margin rule.
-fn house(text: &[u8]) -> Option<Command<'static>>
+fn house(text: &[u8]) -> Option<Command>
     ensures { result ≡ house (words text.now) }
 {
     let (word, rest) = first_word(text)?;
@@ -108,7 +107,7 @@ fn trade(text: &[u8]) -> Option<(u64, i64, Option<u64>)>
 }
 
 /// An account and the terms of an order.
-fn check(text: &[u8]) -> Option<Command<'static>>
+fn check(text: &[u8]) -> Option<Command>
     ensures { result ≡ check (words text.now) }
 {
     let (account, rest) = first_number(text)?;
@@ -122,7 +121,7 @@ fn check(text: &[u8]) -> Option<Command<'static>>
 }
 
 /// An order and the price of each leg.
-fn fill(text: &[u8]) -> Option<Command<'static>>
+fn fill(text: &[u8]) -> Option<Command>
     ensures { result ≡ fill (words text.now) }
 {
     let (order, rest) = first_number(text)?;
@@ -136,7 +135,7 @@ fn fill(text: &[u8]) -> Option<Command<'static>>
 }
 
 /// The call of a name and the words after it. The closing of a day is not among them.
-pub(crate) fn call_of(name: &str, text: &[u8]) -> Option<Command<'static>>
+pub(crate) fn call_of(name: &str, text: &[u8]) -> Option<Command>
     ensures { result ≡ call_of name.now (words text.now) }
 {
     match name {

@@ -1,8 +1,8 @@
 //! What a line of a script says.
-ghost use Rattle.std.specs.Prelude.{◌≡◌, IfOk, IsErrOf, Some, None};
+ghost use Rattle.std.specs.Prelude.{◌≡◌, [], IfOk, IsErrOf, Some, None};
 ghost use Rattle.sheet.specs.Word.{after_blanks};
 ghost use Rattle.script.specs.Words.{words};
-ghost use Rattle.script.specs.Line.{numbers, of_line, IsResultOf};
+ghost use Rattle.script.specs.Line.{numbers, closing, of_line, IsResultOf};
 ghost use Rattle.script.specs.declared.line.ReadError.TheVariants.{OutOfMemory};
 
 use crate::command::{Command, call_of};
@@ -11,6 +11,9 @@ use crate::number::number;
 use sheet::word::trimmed;
 use std::alloc::AllocFailed;
 use std::str;
+
+/// How many bytes the longest name of a call has.
+const LONGEST_NAME: usize = 8;
 
 /// Why a line gives no command.
 #[derive(Clone, Copy, PartialEq, Eq, Debug)]
@@ -28,10 +31,10 @@ impl<T: Drop> From<AllocFailed<T>> for ReadError {
     }
 }
 
-/// The numbers of all words of a text, which the list then holds.
-fn all_numbers<'p>(text: &[u8], list: &'p mut Vec<u64>) -> Result<&'p [u64], ReadError>
+/// Reads the numbers of all words of a text, which the list then holds.
+fn read_numbers(text: &[u8], list: &mut Vec<u64>) -> Result<(), ReadError>
     requires { after_blanks text.now ≡ text.now }
-    ensures ok { IfOk result (λ ns. numbers (words text.now) ≡ Some ns.now) }
+    ensures ok { IfOk result (λ _. numbers (words text.now) ≡ Some list.new.items) }
     ensures unreadable { IsErrOf result ReadError.Unreadable → numbers (words text.now) ≡ None }
 {
     list.clear();
@@ -41,20 +44,38 @@ fn all_numbers<'p>(text: &[u8], list: &'p mut Vec<u64>) -> Result<&'p [u64], Rea
     {
         list.push(number(word).ok_or(ReadError::Unreadable)?)?;
     }
-    Ok(list.as_slice())
+    Ok(())
 }
 
-/// The command of a line, or none where the line has no word. The prices of a closing are kept in the list.
-pub fn read<'p>(line: &[u8], prices: &'p mut Vec<u64>) -> Result<Option<Command<'p>>, ReadError>
-    ensures { ¬ IsErrOf result ReadError.OutOfMemory → IsResultOf (of_line line.now) result }
+/// The closing of a day, whose prices the words say and the list then holds; it is empty where a word is no number.
+fn closing(text: &[u8], kept: &mut Vec<u64>) -> Result<Option<Command>, ReadError>
+    requires { after_blanks text.now ≡ text.now }
+    ensures { ¬ IsErrOf result ReadError.OutOfMemory → IsResultOf (closing (words text.now)) result kept.new.items }
 {
+    match read_numbers(text, kept) {
+        Ok(()) => Ok(Some(Command::Closing)),
+        Err(e) => {
+            kept.clear();
+            Err(e)
+        }
+    }
+}
+
+/// The command of a line, or none where the line has no word. The list then holds the prices of a closing, and is empty after any
+/// other line.
+pub fn read(line: &[u8], prices: &mut Vec<u64>) -> Result<Option<Command>, ReadError>
+    ensures { ¬ IsErrOf result ReadError.OutOfMemory → IsResultOf (of_line line.now) result prices.new.items }
+{
+    prices.clear();
     let Some((name, rest)) = first_word(trimmed(before_comment(line))) else {
         return Ok(None);
     };
+    if name.len() > LONGEST_NAME {
+        return Err(ReadError::Unreadable);
+    }
     let name = str::from_utf8(name).map_err(|_| ReadError::Unreadable)?;
     if name == "closing" {
-        let prices = all_numbers(rest, prices)?;
-        return Ok(Some(Command::Closing { prices }));
+        return closing(rest, prices);
     }
     let command = call_of(name, rest).ok_or(ReadError::Unreadable)?;
     Ok(Some(command))

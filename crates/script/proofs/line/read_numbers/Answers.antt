@@ -6,7 +6,7 @@ use Rattle.script.specs.Line.{numbers}
 use Rattle.script.proofs.Parts.{YieldsList-from_parts}
 use Rattle.script.proofs.Lists.{at_word, onto_word}
 use Rattle.std.proofs.lemmas.List.{length_push, at_drop_all}
-use Rattle.script.proofs.line.all_numbers.Goals as goal
+use Rattle.script.proofs.line.read_numbers.Goals as goal
 
 pub loop-word-init : goal.loop-word-init
 loop-word-init c = record {

@@ -3,7 +3,7 @@ use Rattle.std.proofs.lemmas.Iterator.{YieldsList}
 use Rattle.script.specs.Line.{numbers}
 use Rattle.script.specs.Words.{words}
 use Rattle.script.proofs.Lists.{onto}
-use Rattle.script.proofs.line.all_numbers.Given as goal
+use Rattle.script.proofs.line.read_numbers.Given as goal
 
 abbrev pub invariant-loop-word : goal.invariant-loop-word
 invariant-loop-word l = record {
