@@ -1,6 +1,7 @@
 //! How a market's products, series and prices change.
-ghost use Rattle.std.specs.Prelude.{◌≡◌, ◌<◌, [], ◌∷◌, ◌++◌, length, IfOk, vec_len, slice_set};
+ghost use Rattle.std.specs.Prelude.{◌≡◌, ◌<◌, true, [], ◌∷◌, ◌++◌, length, IfOk, vec_len, slice_set};
 ghost use Rattle.rules.specs.PerLot.{Fits};
+ghost use Rattle.book.specs.Closing.{all};
 ghost use Rattle.book.specs.Equity.{equity};
 ghost use Rattle.book.specs.Market.{series_at};
 ghost use Rattle.book.specs.Prices.{price_in_range, settled, printed, with_quote, open_prices, settle_prices};
@@ -22,6 +23,13 @@ pub fn is_price(price: u64) -> bool
     ensures { result ≡ price_in_range price }
 {
     (1..=MAX_PRICE).contains(&price)
+}
+
+/// Whether every price is in range.
+pub fn all_priced(prices: &[u64]) -> bool
+    ensures { result ≡ all price_in_range prices.now }
+{
+    prices.iter().all(|price| is_price(*price))
 }
 
 /// A series whose day is closed at a settlement price.
@@ -115,18 +123,22 @@ impl<R: MarginRule> Market<R> {
     }
 
     /// The settlement prices of a day, one for each series.
-    pub fn settle(&mut self, prices: &SettlementPrices)
+    pub fn settle(&mut self, prices: &[u64])
         requires many { length prices.now ≡ vec_len self.old.series }
+        requires priced { all price_in_range prices.now ≡ true }
         ensures { the_market R.meaning self.new ≡ with_series (settle_prices prices.now self.old.series.items) (the_market R.meaning self.old) }
     {
-        settle_all(self.series.as_mut_slice(), prices);
+        let prices = SettlementPrices::from_priced(prices);
+        settle_all(self.series.as_mut_slice(), &prices);
     }
 
     /// The equity balance of an account at settlement prices.
-    pub fn equity_at(&self, prices: &SettlementPrices, account: &Account) -> i128
+    pub fn equity_at(&self, prices: &[u64], account: &Account) -> i128
         requires many { length prices.now ≡ vec_len self.now.series }
+        requires priced { all price_in_range prices.now ≡ true }
         ensures value { result ≡ equity (with_series (settle_prices prices.now self.now.series.items) (the_market R.meaning self.now)) account.now }
     {
+        let prices = SettlementPrices::from_priced(prices);
         self.balance(account, |i, held| settled_at(held, prices.of(i)))
     }
 }

@@ -3,7 +3,7 @@ ghost use Rattle.std.specs.Prelude.{◌≡◌, ℕ, ◌<◌, true, List, length,
 ghost use Rattle.book.specs.Closing.{all};
 ghost use Rattle.book.specs.Prices.{price_in_range};
 
-use crate::listing::is_price;
+use crate::listing::all_priced;
 use std::marker::Model;
 
 /// The settlement prices of a day, each in range.
@@ -20,24 +20,20 @@ impl<'a> Model for SettlementPrices<'a> {
     ghost invariant = { λ p. all price_in_range p.prices.now ≡ true };
 }
 
-/// Whether every price is in range.
-fn all_in_range(prices: &[u64]) -> bool
-    ensures { result ≡ all price_in_range prices.now }
-{
-    prices.iter().all(|price| is_price(*price))
-}
-
 impl<'a> SettlementPrices<'a> {
     /// Prices as settlement prices, if each is in range.
     pub fn new(prices: &'a [u64]) -> Option<SettlementPrices<'a>>
         ensures { result ≡ (if all price_in_range prices.now then Some prices.now else None) }
     {
-        // Not by `then`: its closure does not know that the prices are in range.
-        if all_in_range(prices) {
-            Some(SettlementPrices { prices })
-        } else {
-            None
-        }
+        all_priced(prices).then(|| SettlementPrices::from_priced(prices))
+    }
+
+    /// Prices that are in range as settlement prices.
+    pub(crate) fn from_priced(prices: &'a [u64]) -> SettlementPrices<'a>
+        requires { all price_in_range prices.now ≡ true }
+        ensures { result ≡ prices.now }
+    {
+        SettlementPrices { prices }
     }
 
     /// The settlement price of a series.

@@ -1,7 +1,6 @@
 -- What Closing rests on.
-use Rattle.std.proofs.Common.{◌≡◌, ℕ, zero, suc, ◌<◌, ◌≤◌, Bool, true, false, cond, not, Some, None, ◌&&◌, List, [], ◌∷◌, map, length, get_or, sym, refl, ap, ◌∙◌, arith}
+use Rattle.std.proofs.Common.{◌≡◌, ℕ, zero, suc, ◌<◌, ◌≤◌, Bool, true, false, not, ◌&&◌, List, [], ◌∷◌, map, length, get_or, sym, refl, ap, ◌∙◌, arith}
 use Rattle.std.proofs.lemmas.Bool.{and_parts}
-use Rattle.std.proofs.lemmas.Option.{cond_some}
 use Rattle.account.proofs.Listings.{settle_length, settled_mark}
 use Rattle.account.specs.View.{with_series}
 use Rattle.book.specs.declared.account.Account.{Account}
@@ -39,21 +38,18 @@ pub record Tested (m m' : Market) (n : ℕ) (ps : List ℕ) (xs : List Account) 
   after : m' ≡ with_series (settle_prices ps m.series) m
 
 -- the same from tests of lists that are the accounts
-pub tested : (m m' : Market) (n len : ℕ) (given ps : List ℕ) (xs ys zs accounts : List Account)
+pub tested : (m m' : Market) (n len : ℕ) (ps : List ℕ) (xs ys zs accounts : List Account)
     → len ≡ length accounts → xs ≡ accounts → ys ≡ accounts → zs ≡ accounts → ((k : ℕ) (d : Account) → k < len → sound m.series n (get_or accounts k d) ≡ true)
-    → true ≡ none_open ys → length given ≡ length m.series → cond (all price_in_range given) (Some given) None ≡ Some ps
+    → true ≡ none_open ys → length ps ≡ length m.series → true ≡ all price_in_range ps
     → true ≡ cash_fits_at (with_series (settle_prices ps m.series) m) zs → m' ≡ with_series (settle_prices ps m.series) m → Tested m m' n ps xs
-tested m m' n len given ps xs ys zs accounts long x-is y-is z-is sounds none many priced fits after = record {
+tested m m' n len ps xs ys zs accounts long x-is y-is z-is sounds none many priced fits after = record {
   sounds = λ k d lt. rw x-is (sounds k d (omega (arith, ap length x-is)));
   none = none ∙ ap none_open (y-is ∙ sym x-is);
-  many = ap length (sym p.1) ∙ many;
-  ranged = ap (all price_in_range) (sym p.1) ∙ p.0;
+  many = many;
+  ranged = sym priced;
   fits = fits ∙ ap (cash_fits_at (with_series (settle_prices ps m.series) m)) (z-is ∙ sym x-is);
   after = after;
 }
-  where
-    p : (all price_in_range given ≡ true) × (given ≡ ps)
-    p = cond_some (all price_in_range given) given ps priced
 
 module _ (m m' : Market) (n : ℕ) (ps : List ℕ) (xs : List Account) (t : Tested m m' n ps xs) where
   fits_after : cash_fits_at m' xs ≡ true

@@ -1,18 +1,18 @@
 //! The close of a trading day.
-ghost use Rattle.std.specs.Prelude.{◌≡◌, map, length, IfOk, vec_len};
+ghost use Rattle.std.specs.Prelude.{◌≡◌, true, map, length, IfOk, vec_len};
 ghost use Rattle.account.specs.View.{the_market, with_series};
 ghost use Rattle.book.specs.Call.{Closing};
-ghost use Rattle.book.specs.Closing.{settle_account};
+ghost use Rattle.book.specs.Closing.{all, settle_account};
 ghost use Rattle.book.specs.Orders.{any_open};
-ghost use Rattle.book.specs.Prices.{settle_prices};
+ghost use Rattle.book.specs.Prices.{price_in_range, settle_prices};
 ghost use Rattle.book.specs.Step.{step};
 ghost use Rattle.house.specs.Closings.{none_open, cash_fits_at, Settleable, after_closing};
 ghost use Rattle.house.specs.Reply.{done};
 ghost use Rattle.house.specs.View.{trading};
 
 use crate::house::House;
+use account::listing::all_priced;
 use account::market::Market;
-use account::prices::SettlementPrices;
 use account::settle::cash_fits;
 use book::account::Account;
 use book::refusal::Refusal;
@@ -33,12 +33,9 @@ fn none_open(accounts: &[Account]) -> bool
 }
 
 /// Whether every account's equity balance at these prices may be cash.
-fn all_fit<R: MarginRule>(
-    market: &Market<R>,
-    prices: &SettlementPrices,
-    accounts: &[Account],
-) -> bool
-    requires { length prices.now ≡ vec_len market.now.series }
+fn all_fit<R: MarginRule>(market: &Market<R>, prices: &[u64], accounts: &[Account]) -> bool
+    requires many { length prices.now ≡ vec_len market.now.series }
+    requires priced { all price_in_range prices.now ≡ true }
     ensures { result ≡ cash_fits_at (with_series (settle_prices prices.now market.now.series.items) (the_market R.meaning market.now)) accounts.now }
 {
     accounts
@@ -70,11 +67,13 @@ impl<R: MarginRule> House<R> {
         if prices.len() != self.market.series.len() {
             return Err(Refusal::WrongCount);
         }
-        let prices = SettlementPrices::new(prices).ok_or(Refusal::OutOfRange)?;
-        if !all_fit(&self.market, &prices, &self.accounts) {
+        if !all_priced(prices) {
+            return Err(Refusal::OutOfRange);
+        }
+        if !all_fit(&self.market, prices, &self.accounts) {
             return Err(Refusal::CashLimit);
         }
-        self.market.settle(&prices);
+        self.market.settle(prices);
         settle_all(&self.market, &mut self.accounts);
         self.placed.clear();
         Ok(())

@@ -3,7 +3,7 @@ use Rattle.std.proofs.lemmas.Iterator.{YieldsList-from_slice}
 use Rattle.std.proofs.lemmas.Iterator.Search.{all_from_yields_List}
 use Rattle.book.specs.Prices.{price_in_range}
 use Rattle.account.proofs.Listings.{list_all_is}
-use Rattle.account.proofs.prices.all_in_range.Goals as goal
+use Rattle.account.proofs.listing.all_priced.Goals as goal
 
 pub returns : goal.returns
 returns c =
