@@ -73,12 +73,16 @@ impl Session {
             }
             _ => {}
         }
-        replace_with(self, (command, prices), |session, (command, prices)| match (session, command) {
-            (Session::Waiting, Command::House { number, rule }) => set_up(heap, number, rule),
-            (Session::Closed(desk), Command::Opening) => open(desk),
-            (Session::Trading(desk), Command::Closing) => close(desk, prices),
-            (session, _) => (session, Ok(Err(Fault::Unreadable))),
-        })
+        replace_with(
+            self,
+            (command, prices),
+            |session, (command, prices)| match (session, command) {
+                (Session::Waiting, Command::House { number, rule }) => set_up(heap, number, rule),
+                (Session::Closed(desk), Command::Opening) => open(desk),
+                (Session::Trading(desk), Command::Closing) => close(desk, prices),
+                (session, _) => (session, Ok(Err(Fault::Unreadable))),
+            },
+        )
     }
 
     /// Ends the session.
