@@ -70,7 +70,7 @@ where
     }
 }
 
-/// A call but for Closing, with a place for the ticket of a Check.
+/// A call on a trading house but for Closing, with a place for the ticket of a Check.
 fn reply<R: MarginRule>(
     house: &mut Trading<R>,
     tickets: &mut Vec<Ticket>,
@@ -142,7 +142,7 @@ pub fn on_trading<R: MarginRule>(
 }
 
 impl<R: MarginRule> Desk<Trading<R>> {
-    /// A call on the house of this desk.
+    /// A call on the desk's house, but for Closing; an error where memory wants for a ticket.
     pub fn on_trading(&mut self, command: Command) -> Result<Reply, AllocError>
         ensures { IfOk result (λ x. Replied (call_of command) (the_trading R.meaning self.old.house) x (the_trading R.meaning self.new.house)) }
     {

@@ -62,7 +62,7 @@ fn take_line(
     }
 }
 
-/// Runs the script, line by line.
+/// Runs the script, line by line, with one set of buffers for all lines.
 fn run_lines<B: Read + Drop, W: Write>(
     rt: &HostRuntime,
     mut input: BufReader<B>,

@@ -1,5 +1,5 @@
--- A name that is not text, or longer than any call's, is the name of no call.
-use Rattle.std.proofs.Common.{◌≡◌, ◌<◌, Bool, true, not, ◌&&◌, ℕ, List, ◌∷◌, length, ltb, sym, subst, ap, arith}
+-- A name that is not text is the name of no call.
+use Rattle.std.proofs.Common.{◌≡◌, Bool, true, not, ◌&&◌, ℕ, List, ◌∷◌, sym, subst, arith}
 use Rattle.std.specs.Char.{is_ascii}
 use Rattle.std.specs.List.{list_all}
 use Rattle.std.specs.Str.{bytes_eq, IsUtf8}
@@ -21,11 +21,3 @@ not_text name h text =
 
 pub no_call : (name : List ℕ) (ws : List (List ℕ)) → ¬ (IsUtf8 name) → of_words (name ∷ ws) ≡ reading.Unreadable
 no_call name ws h = grind (arith, not_text name h)
-
-too_long : (name : List ℕ) → 8 < length name → (text : List ℕ) → bytes_eq name text ≡ (not (ltb (length text) 9) && bytes_eq name text)
-too_long name h text =
-    never_both (ltb (length text) 9) (bytes_eq name text)
-    (λ short same. let same_length = ap length ((bytes_eq-Decides name text).0 same) in omega (arith, ltb-true _ 9 short))
-
-pub no_long_call : (name : List ℕ) (ws : List (List ℕ)) → 8 < length name → of_words (name ∷ ws) ≡ reading.Unreadable
-no_long_call name ws h = grind (arith, too_long name h)

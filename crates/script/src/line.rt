@@ -47,7 +47,7 @@ fn read_numbers(text: &[u8], list: &mut Vec<u64>) -> Result<(), ReadError>
     Ok(())
 }
 
-/// The closing of a day, whose prices the words say and the list then holds; it is empty where a word is no number.
+/// The closing of a day at the prices that the words say, which the list then holds; where a word is no number, the list is empty.
 fn closing(text: &[u8], kept: &mut Vec<u64>) -> Result<Option<Command>, ReadError>
     requires { after_blanks text.now ≡ text.now }
     ensures { ¬ IsErrOf result ReadError.OutOfMemory → IsResultOf (closing (words text.now)) result kept.new.items }
@@ -70,6 +70,7 @@ pub fn read(line: &[u8], prices: &mut Vec<u64>) -> Result<Option<Command>, ReadE
     let Some((name, rest)) = first_word(trimmed(before_comment(line))) else {
         return Ok(None);
     };
+    // Such a name is no call's, and is not tested for UTF-8 whole.
     if name.len() > LONGEST_NAME {
         return Err(ReadError::Unreadable);
     }
