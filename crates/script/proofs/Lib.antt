@@ -1,4 +1,3 @@
 pub mod Splits
 pub mod Parts
 pub mod Lists
-pub mod Texts

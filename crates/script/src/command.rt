@@ -135,16 +135,16 @@ fn fill(text: &[u8]) -> Option<Command>
 }
 
 /// The call of a name and the words after it. The closing of a day is not among them.
-pub(crate) fn call_of(name: &str, text: &[u8]) -> Option<Command>
+pub(crate) fn call_of(name: &[u8], text: &[u8]) -> Option<Command>
     ensures { result ≡ call_of name.now (words text.now) }
 {
     match name {
-        "house" => house(text),
-        "product" => {
+        b"house" => house(text),
+        b"product" => {
             let [outright, spread] = numbers::<2>(text)?;
             Some(Command::Product { outright, spread })
         }
-        "rates" => {
+        b"rates" => {
             let [product, outright, spread] = numbers::<3>(text)?;
             Some(Command::Rates {
                 product,
@@ -152,7 +152,7 @@ pub(crate) fn call_of(name: &str, text: &[u8]) -> Option<Command>
                 spread,
             })
         }
-        "series" => {
+        b"series" => {
             let [product, multiplier, price] = numbers::<3>(text)?;
             Some(Command::Series {
                 product,
@@ -160,45 +160,45 @@ pub(crate) fn call_of(name: &str, text: &[u8]) -> Option<Command>
                 price,
             })
         }
-        "account" => {
+        b"account" => {
             let [] = numbers::<0>(text)?;
             Some(Command::Account)
         }
-        "opening" => {
+        b"opening" => {
             let [] = numbers::<0>(text)?;
             Some(Command::Opening)
         }
-        "clock" => {
+        b"clock" => {
             let [minute] = numbers::<1>(text)?;
             Some(Command::Clock { minute })
         }
-        "print" => {
+        b"print" => {
             let [series, price] = numbers::<2>(text)?;
             Some(Command::Print { series, price })
         }
-        "deposit" => {
+        b"deposit" => {
             let [account, amount] = numbers::<2>(text)?;
             Some(Command::Deposit { account, amount })
         }
-        "withdraw" => {
+        b"withdraw" => {
             let [account, amount] = numbers::<2>(text)?;
             Some(Command::Withdraw { account, amount })
         }
-        "check" => check(text),
-        "send" => {
+        b"check" => check(text),
+        b"send" => {
             let [order] = numbers::<1>(text)?;
             Some(Command::Send { order })
         }
-        "drop" => {
+        b"drop" => {
             let [order] = numbers::<1>(text)?;
             Some(Command::Drop { order })
         }
-        "fill" => fill(text),
-        "cancel" => {
+        b"fill" => fill(text),
+        b"cancel" => {
             let [order] = numbers::<1>(text)?;
             Some(Command::Cancel { order })
         }
-        "figures" => {
+        b"figures" => {
             let [account] = numbers::<1>(text)?;
             Some(Command::Figures { account })
         }

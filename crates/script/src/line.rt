@@ -10,10 +10,6 @@ use crate::fields::{before_comment, first_word};
 use crate::number::number;
 use sheet::word::trimmed;
 use std::alloc::AllocFailed;
-use std::str;
-
-/// How many bytes the longest name of a call has.
-const LONGEST_NAME: usize = 8;
 
 /// Why a line gives no command.
 #[derive(Clone, Copy, PartialEq, Eq, Debug)]
@@ -70,12 +66,7 @@ pub fn read(line: &[u8], prices: &mut Vec<u64>) -> Result<Option<Command>, ReadE
     let Some((name, rest)) = first_word(trimmed(before_comment(line))) else {
         return Ok(None);
     };
-    // Such a name is no call's, and is not tested for UTF-8 whole.
-    if name.len() > LONGEST_NAME {
-        return Err(ReadError::Unreadable);
-    }
-    let name = str::from_utf8(name).map_err(|_| ReadError::Unreadable)?;
-    if name == "closing" {
+    if name == b"closing".as_slice() {
         return closing(rest, prices);
     }
     let command = call_of(name, rest).ok_or(ReadError::Unreadable)?;
